@@ -1,0 +1,61 @@
+// The numbers that an engineer sees, under their names (document 01, "Numbers an engineer sees"). specs/Numbers.antt has the same.
+
+// done
+pub const DONE: u8 = 0;
+
+// algorithm not 5, 6, 7
+pub const ALGORITHM: u8 = 1;
+
+// bench key not 24 bytes
+pub const BENCH_KEY: u8 = 2;
+
+// IV not 10 bytes
+pub const IV_SIZE: u8 = 3;
+
+// length 0, or skip + length above 8,288
+pub const LENGTH: u8 = 4;
+
+// buffer above 8,192 bytes
+pub const BUFFER: u8 = 5;
+
+// start + length above 8 times the buffer's bytes
+pub const SPAN: u8 = 6;
+
+// slot number not 1..32
+pub const SLOT_NUMBER: u8 = 7;
+
+// slot empty
+pub const SLOT_EMPTY: u8 = 8;
+
+// target slot filled
+pub const TARGET_FILLED: u8 = 9;
+
+// use or direction code unknown
+pub const CODE: u8 = 10;
+
+// side above 1 or place above 79
+pub const SIDE_OR_PLACE: u8 = 11;
+
+// use doesn't include the direction
+pub const DIRECTION: u8 = 12;
+
+// IV side bit wrong
+pub const IV_SIDE: u8 = 13;
+
+// asked use not within the present use
+pub const USE_WIDER: u8 = 14;
+
+// record text bad; line 1..7 given
+pub const RECORD_TEXT: u8 = 15;
+
+// table not 32 records, or a bad slot in it
+pub const TABLE: u8 = 16;
+
+// record text longer than the buffer
+pub const RECORD_ROOM: u8 = 17;
+
+// PDU kind, state or flag unknown, or PDU above 8,288 bits
+pub const PDU_CODE: u8 = 18;
+
+// PDU parts don't fit
+pub const PDU_PARTS: u8 = 19;
