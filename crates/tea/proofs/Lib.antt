@@ -1,0 +1,2 @@
+pub mod MixingRule
+pub mod Rules

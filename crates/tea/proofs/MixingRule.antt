@@ -1,0 +1,32 @@
+-- The rule of the mixed bytes: the first ten are the initial value's, and each later one comes from three before it. Assumes nothing.
+use mathlib.Core.Path.{_≡_, sym, ap, _∙_}
+use mathlib.Core.List.{List}
+use Prim.Native.Nat.{ℕ, _+_, _-_, _<_, _≤_}
+use native.Mathlib.Nat.{add-zero}
+use native.Mathlib.Omega.{arith}
+use lib.Dec.{lit<}
+use lib.ListN.{length, getD}
+use Rattle.laws.specs.Lists.{Filled}
+use Rattle.laws.proofs.Windows.{window-at, sequence-first, sequence-next}
+use Rattle.tea.specs.Mixing.{mixed, mixedByte}
+
+module _ (iv : List ℕ) (ten : length iv ≡ 10) where
+  pub byte-first : (i : ℕ) → i < 10 → mixedByte iv i ≡ getD iv i 0
+  unfolding mixedByte
+  byte-first i h = sequence-first _ iv 9 ten i h
+
+  byte-later : (i : ℕ) → mixedByte iv (i + 10) ≡ mixed (mixedByte iv i) (mixedByte iv (i + 1)) (mixedByte iv (i + 9))
+  unfolding mixedByte
+  byte-later i =
+      sequence-next _ iv 9 ten i
+      ∙ rw (window-at _ iv 9 ten i 0 (lit< tt), window-at _ iv 9 ten i 1 (lit< tt), window-at _ iv 9 ten i 9 (lit< tt), add-zero)
+
+  -- what is made of bytes that are right is the next one
+  pub byte-next : (b : List ℕ) (i : ℕ) → Filled (mixedByte iv) 0 44 b i → 10 ≤ i
+      → mixed (getD b (i - 10) 0) (getD b (i - 9) 0) (getD b (i - 1) 0) ≡ mixedByte iv i
+  byte-next b i g h =
+      let p : i - 10 + 10 ≡ i = omega arith in
+      let q : i - 10 + 1 ≡ i - 9 = omega arith in
+      let r : i - 10 + 9 ≡ i - 1 = omega arith in
+      rw (g .entries (i - 10) (omega arith), g .entries (i - 9) (omega arith), g .entries (i - 1) (omega arith))
+      (sym (ap (mixedByte iv) (sym p) ∙ byte-later (i - 10) ∙ rw (q, r)))

@@ -1,0 +1,5 @@
+pub mod Combining
+pub mod Algorithm
+pub mod Mixing
+pub mod Mode
+pub mod Keystream
