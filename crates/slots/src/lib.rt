@@ -1,0 +1,341 @@
+// The table of thirty-two key slots, by value: load, move, clear and read, and what a use allows.
+ghost use mathlib.Core.Path.{_≡_};
+ghost use mathlib.Core.Bool.{true};
+ghost use Prim.Native.Nat.{_-_, _<_};
+ghost use Rattle.fields.specs.Fields.{isSlotNumber};
+ghost use Rattle.slots.specs.Slots.{noFields, askedOf, isNoFields, allZero, isEmpty, isFilled, isBad, hasBad, empty, emptyTable, slotAt, withSlot};
+ghost use Rattle.slots.specs.Rights.{isDirection, includes, within, movedUse, staysWithin};
+ghost use Rattle.slots.specs.Calls.{loadRefusal, moveRefusal, slotRefusal, clearRefusal, loaded, movedSlot, moved, cleared, shown};
+use fields::Asked;
+use fields::Fields;
+
+// What may be shown, and what may not.
+#[repr(C)]
+pub struct Slot {
+    pub fields: Fields,
+    pub key: [u8; 24],
+}
+
+// The answer to a call that changes the table.
+pub struct Changed {
+    pub refusal: u8,
+    pub table: [Slot; 32],
+}
+
+// The answer to a read.
+pub struct Shown {
+    pub refusal: u8,
+    pub number: u64,
+    pub fields: Fields,
+}
+
+fn no_fields() -> Fields
+    ensures { λ r. ⌜ r ≡ noFields ⌝ }
+{
+    Fields {
+        version: 0,
+        algorithm: 0,
+        usage: 0,
+        side: 0,
+        place: 0,
+    }
+}
+
+pub fn empty_slot() -> Slot
+    ensures { λ r. ⌜ r ≡ empty ⌝ }
+{
+    Slot {
+        fields: no_fields(),
+        key: [0u8; 24],
+    }
+}
+
+pub fn empty_table() -> [Slot; 32]
+    ensures { λ r. ⌜ r ≡ emptyTable ⌝ }
+{
+    let slot = empty_slot();
+    [slot; 32]
+}
+
+pub fn asked(f: Fields) -> Asked
+    ensures { λ r. ⌜ r ≡ askedOf f ⌝ }
+{
+    Asked {
+        version: f.version,
+        algorithm: f.algorithm as u64,
+        usage: f.usage as u64,
+        side: f.side as u64,
+        place: f.place as u64,
+    }
+}
+
+fn is_no_fields(f: Fields) -> bool
+    ensures { λ r. ⌜ r ≡ isNoFields f ⌝ }
+{
+    f.version == 0 && (f.algorithm | f.usage | f.side | f.place) == 0
+}
+
+// No branch on a byte: quick, and the same work for every key.
+fn all_zero(key: [u8; 24]) -> bool
+    ensures { λ r. ⌜ r ≡ allZero key ⌝ }
+{
+    let mut joined: u8 = 0;
+    let mut i: usize = 0;
+    while i < 24 {
+        joined = joined | key[i];
+        i += 1;
+    }
+    joined == 0
+}
+
+// The key is looked at only where every field is zero.
+fn is_empty(slot: Slot) -> bool
+    ensures { λ r. ⌜ r ≡ isEmpty slot ⌝ }
+{
+    let f = slot.fields;
+    let k = slot.key;
+    is_no_fields(f) && all_zero(k)
+}
+
+pub fn is_filled(slot: Slot) -> bool
+    ensures { λ r. ⌜ r ≡ isFilled slot ⌝ }
+{
+    let f = slot.fields;
+    let a = asked(f);
+    fields::is_algorithm(a.algorithm) && fields::rights_refusal(a) == refusals::DONE
+}
+
+fn is_bad(slot: Slot) -> bool
+    ensures { λ r. ⌜ r ≡ isBad slot ⌝ }
+{
+    !is_filled(slot) && !is_empty(slot)
+}
+
+pub fn table_is_bad(table: [Slot; 32]) -> bool
+    ensures { λ r. ⌜ r ≡ hasBad table ⌝ }
+{
+    let mut i: usize = 0;
+    while i < 32 {
+        let slot = table[i];
+        if is_bad(slot) {
+            return true;
+        }
+        i += 1;
+    }
+    false
+}
+
+fn index_of(number: u64) -> usize
+    requires { ⌜ isSlotNumber number ≡ true ⌝ }
+    ensures { λ r. ⌜ (r ≡ number - 1) × (r < 32) ⌝ }
+{
+    (number - 1) as usize
+}
+
+pub fn slot_at(table: [Slot; 32], number: u64) -> Slot
+    requires { ⌜ isSlotNumber number ≡ true ⌝ }
+    ensures { λ r. ⌜ r ≡ slotAt table number ⌝ }
+{
+    table[index_of(number)]
+}
+
+pub fn with_slot(table: [Slot; 32], number: u64, slot: Slot) -> [Slot; 32]
+    requires { ⌜ isSlotNumber number ≡ true ⌝ }
+    ensures { λ r. ⌜ r ≡ withSlot table number slot ⌝ }
+{
+    let mut t = table;
+    t[index_of(number)] = slot;
+    t
+}
+
+pub fn is_direction(d: u64) -> bool
+    ensures { λ r. ⌜ r ≡ isDirection d ⌝ }
+{
+    1 <= d && d <= 2
+}
+
+pub fn use_includes(usage: u8, code: u64) -> bool
+    ensures { λ r. ⌜ r ≡ includes usage code ⌝ }
+{
+    usage == 3 || usage as u64 == code
+}
+
+fn lies_within(usage: u64, present: u8) -> bool
+    ensures { λ r. ⌜ r ≡ within usage present ⌝ }
+{
+    fields::is_use(usage) && use_includes(present, usage)
+}
+
+fn moved_use(present: u8, asked: u64) -> u64
+    ensures { λ r. ⌜ r ≡ movedUse present asked ⌝ }
+{
+    if asked == 0 { present as u64 } else { asked }
+}
+
+fn stays_within(present: u8, asked: u64) -> bool
+    ensures { λ r. ⌜ r ≡ staysWithin present asked ⌝ }
+{
+    lies_within(moved_use(present, asked), present)
+}
+
+// Refusals 16, 7, 1, 10, 11, 9, in this order.
+fn load_refusal(table: [Slot; 32], number: u64, asked: Asked) -> u8
+    ensures { λ r. ⌜ r ≡ loadRefusal table number asked ⌝ }
+{
+    if table_is_bad(table) {
+        return refusals::TABLE;
+    }
+    if !fields::is_slot_number(number) {
+        return refusals::SLOT_NUMBER;
+    }
+    if !fields::is_algorithm(asked.algorithm) {
+        return refusals::ALGORITHM;
+    }
+    let rights = fields::rights_refusal(asked);
+    if rights != refusals::DONE {
+        return rights;
+    }
+    if is_filled(slot_at(table, number)) {
+        return refusals::TARGET_FILLED;
+    }
+    refusals::DONE
+}
+
+// Refusals 16, 7 for either number, 8, 9, 10, 14, in this order.
+fn move_refusal(table: [Slot; 32], from: u64, to: u64, asked: u64) -> u8
+    ensures { λ r. ⌜ r ≡ moveRefusal table from to asked ⌝ }
+{
+    if table_is_bad(table) {
+        return refusals::TABLE;
+    }
+    if !fields::is_slot_number(from) {
+        return refusals::SLOT_NUMBER;
+    }
+    if !fields::is_slot_number(to) {
+        return refusals::SLOT_NUMBER;
+    }
+    let slot = slot_at(table, from);
+    if is_empty(slot) {
+        return refusals::SLOT_EMPTY;
+    }
+    if is_filled(slot_at(table, to)) {
+        return refusals::TARGET_FILLED;
+    }
+    if 3 < asked {
+        return refusals::CODE;
+    }
+    let f = slot.fields;
+    if !stays_within(f.usage, asked) {
+        return refusals::USE_WIDER;
+    }
+    refusals::DONE
+}
+
+// Refusals 7, 8, in this order.
+pub fn slot_refusal(table: [Slot; 32], number: u64) -> u8
+    ensures { λ r. ⌜ r ≡ slotRefusal table number ⌝ }
+{
+    if !fields::is_slot_number(number) {
+        return refusals::SLOT_NUMBER;
+    }
+    if is_empty(slot_at(table, number)) {
+        return refusals::SLOT_EMPTY;
+    }
+    refusals::DONE
+}
+
+// Refusals 16, 7, 8, in this order.
+fn clear_refusal(table: [Slot; 32], number: u64) -> u8
+    ensures { λ r. ⌜ r ≡ clearRefusal table number ⌝ }
+{
+    if table_is_bad(table) {
+        return refusals::TABLE;
+    }
+    slot_refusal(table, number)
+}
+
+// Fills an empty slot.
+pub fn load(table: [Slot; 32], number: u64, asked: Asked, key: [u8; 24]) -> Changed
+    ensures { λ r. ⌜ r ≡ loaded table number asked key ⌝ }
+{
+    let refusal = load_refusal(table, number, asked);
+    if refusal != refusals::DONE {
+        return Changed { refusal, table };
+    }
+    let slot = Slot {
+        fields: fields::stored(asked),
+        key,
+    };
+    Changed {
+        refusal,
+        table: with_slot(table, number, slot),
+    }
+}
+
+// The slot as a move leaves it in its new place.
+fn moved_slot(slot: Slot, asked: u64) -> Slot
+    requires { ⌜ staysWithin (slot .fields .usage) asked ≡ true ⌝ }
+    ensures { λ r. ⌜ r ≡ movedSlot slot asked ⌝ }
+{
+    let f = slot.fields;
+    let key = slot.key;
+    let fields = Fields {
+        version: f.version,
+        algorithm: f.algorithm,
+        usage: moved_use(f.usage, asked) as u8,
+        side: f.side,
+        place: f.place,
+    };
+    Slot { fields, key }
+}
+
+// Carries a filled slot to an empty one, with a use that lies within the present one.
+pub fn move_slot(table: [Slot; 32], from: u64, to: u64, asked: u64) -> Changed
+    ensures { λ r. ⌜ r ≡ moved table from to asked ⌝ }
+{
+    let refusal = move_refusal(table, from, to, asked);
+    if refusal != refusals::DONE {
+        return Changed { refusal, table };
+    }
+    let slot = moved_slot(slot_at(table, from), asked);
+    let carried = with_slot(table, to, slot);
+    Changed {
+        refusal,
+        table: with_slot(carried, from, empty_slot()),
+    }
+}
+
+// Empties a filled slot.
+pub fn clear(table: [Slot; 32], number: u64) -> Changed
+    ensures { λ r. ⌜ r ≡ cleared table number ⌝ }
+{
+    let refusal = clear_refusal(table, number);
+    if refusal != refusals::DONE {
+        return Changed { refusal, table };
+    }
+    Changed {
+        refusal,
+        table: with_slot(table, number, empty_slot()),
+    }
+}
+
+// A filled slot's number and fields, without the key.
+pub fn read(table: [Slot; 32], number: u64) -> Shown
+    ensures { λ r. ⌜ r ≡ shown table number ⌝ }
+{
+    let refusal = clear_refusal(table, number);
+    if refusal != refusals::DONE {
+        return Shown {
+            refusal,
+            number: 0,
+            fields: no_fields(),
+        };
+    }
+    let slot = slot_at(table, number);
+    let fields = slot.fields;
+    Shown {
+        refusal,
+        number,
+        fields,
+    }
+}
