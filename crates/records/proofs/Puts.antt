@@ -1,0 +1,150 @@
+-- Texts put into a buffer one after the other. Assumes nothing.
+use mathlib.Core.Path.{_≡_, refl, sym, ap, subst, _∙_}
+use mathlib.Core.Logic.{⊎-elim}
+use mathlib.Core.List.{List, [], _∷_, _++_}
+use Prim.Native.Nat.{ℕ, suc, _+_, _-_, _*_, _≤_, _<_, _/_, _%_}
+use native.Mathlib.Numerals.{add-one}
+use native.Mathlib.Omega.{arith}
+use lib.ListN.{length, getD, take, drop, set, drop-of-length-le, length-append}
+use lib.Seq.{drop-cons, take-suc, take-all, length-take-le, sets, length-sets, set-comm}
+use borrow.Author.Tests.{eq-eqb, ne-eqb}
+use Rattle.laws.proofs.Cases.{lt-or-le}
+use Rattle.records.specs.Text.{ascii, lf, digits, useWord, hexDigit, hexText, lineText}
+use Rattle.records.specs.Writing.{Room, Put}
+use Rattle.records.proofs.Decimals.{digits-one, digits-ten}
+
+-- of a text t, i bytes are put
+module _ (b : List ℕ) (at : ℕ) (t : List ℕ) (i : ℕ) where
+  pub put-more : i < length t → sets b (at + i) (drop i t) ≡ sets (set b (at + i) (getD t i 0)) (at + (i + 1)) (drop (i + 1) t)
+  put-more h =
+      let z : suc (at + i) ≡ at + (i + 1) = omega arith in
+      let y : suc i ≡ i + 1 = omega arith in
+      ap (sets b (at + i)) (drop-cons t i 0 h) ∙ (λ k. sets (set b (at + i) (getD t i 0)) (z k) (drop (y k) t))
+
+  pub put-all : length t ≤ i → sets b (at + i) (drop i t) ≡ b
+  put-all h = ap (sets b (at + i)) (drop-of-length-le t h)
+
+-- a text and then another
+
+sets-append : (b : List ℕ) (at : ℕ) (s t : List ℕ) → sets b at (s ++ t) ≡ sets (sets b at s) (at + length s) t
+sets-append b at [] t = let z : at ≡ at + 0 = omega arith in ap (λ (k : ℕ). sets b k t) z
+sets-append b at (x ∷ s) t =
+    let z : suc at + length s ≡ at + suc (length s) = omega arith in
+    sets-append (set b at x) (suc at) s t ∙ ap (λ (k : ℕ). sets (sets (set b at x) (suc at) s) k t) z
+
+pub put-none : (b : List ℕ) (at : ℕ) → Put b at [] b at
+put-none b at = record { holds = refl; ends = omega arith }
+
+pub room-first : {b : List ℕ} {at : ℕ} {s : List ℕ} (t : List ℕ) → Room b at (s ++ t) → Room b at s
+room-first {b} {at} {s} t h = record { fits = omega (arith, length-append s t, h .fits) }
+
+module _ {b b′ : List ℕ} {at end : ℕ} {s : List ℕ} (p : Put b at s b′ end) where
+  pub put-length : length b′ ≡ length b
+  put-length = ap length (p .holds) ∙ length-sets b at s
+
+  pub put-then : {b″ : List ℕ} {t : List ℕ} {last : ℕ} → Put b′ end t b″ last → Put b at (s ++ t) b″ last
+  put-then {b″} {t} {last} q =
+      record {
+        holds = q .holds ∙ (λ i. sets (p .holds i) (p .ends i) t) ∙ sym (sets-append b at s t);
+        ends = omega (arith, p .ends, q .ends, length-append s t);
+      }
+
+  -- where both fit, so does the second after the first
+  pub room-then : {t : List ℕ} → Room b at (s ++ t) → Room b′ end t
+  room-then {t} h = record { fits = omega (arith, p .ends, put-length, length-append s t, h .fits) }
+
+-- the same text, written another way
+pub put-as : {b b′ : List ℕ} {at end : ℕ} {s t : List ℕ} → s ≡ t → Put b at s b′ end → Put b at t b′ end
+put-as {b} {b′} {at} {end} e p = subst (λ (x : List ℕ). Put b at x b′ end) e p
+
+pub room-as : {b : List ℕ} {at : ℕ} {s t : List ℕ} → s ≡ t → Room b at s → Room b at t
+room-as {b} {at} e h = subst (Room b at) e h
+
+-- digits, the last one first
+
+pub length-one : (n : ℕ) → n < 10 → length (digits n) ≡ 1
+length-one n h = ap length (digits-one n h)
+
+pub length-ten : (n : ℕ) → 10 ≤ n → length (digits n) ≡ length (digits (n / 10)) + 1
+length-ten n h = ap length (digits-ten n h) ∙ length-append (digits (n / 10)) ((48 + n % 10) ∷ [])
+
+pub length-some : (n : ℕ) → 0 < length (digits n)
+length-some n = ⊎-elim (λ h. omega (arith, length-one n h)) (λ h. omega (arith, length-ten n h)) (lt-or-le n 10)
+
+set-after : (b : List ℕ) (at : ℕ) (s : List ℕ) (i v : ℕ) → at + length s ≤ i → set (sets b at s) i v ≡ sets (set b i v) at s
+set-after b at [] i v h = refl
+set-after b at (x ∷ s) i v h =
+    set-after (set b at x) (suc at) s i v (omega arith)
+    ∙ ap (λ (l : List ℕ). sets l (suc at) s) (set-comm b at i x v (λ e. let z : at ≡ i = e in omega arith))
+
+pub put-last : (b : List ℕ) (at n : ℕ) → n < 10 → sets b at (digits n) ≡ set b at (48 + n)
+put-last b at n h = ap (sets b at) (digits-one n h)
+
+pub put-digit : (b : List ℕ) (at n i : ℕ) → 10 ≤ n → i ≡ at + length (digits (n / 10))
+    → sets b at (digits n) ≡ sets (set b i (48 + n % 10)) at (digits (n / 10))
+put-digit b at n i h e =
+    ap (sets b at) (digits-ten n h) ∙ sets-append b at (digits (n / 10)) ((48 + n % 10) ∷ [])
+    ∙ ap (λ (k : ℕ). set (sets b at (digits (n / 10))) k (48 + n % 10)) (sym e)
+    ∙ set-after b at (digits (n / 10)) i (48 + n % 10) (omega arith)
+
+-- the words of a use
+
+module _ (u : ℕ) where
+  pub use-send : u ≡ 1 → lineText "use=" (useWord u) ≡ ascii "use=SEND\n"
+  unfolding useWord
+  use-send e = rw (eq-eqb u 1 e)
+
+  pub use-recv : (u ≡ 1 → ⊥) → u ≡ 2 → lineText "use=" (useWord u) ≡ ascii "use=RECV\n"
+  unfolding useWord
+  use-recv n e = rw (ne-eqb u 1 n, eq-eqb u 2 e)
+
+  pub use-both : (u ≡ 1 → ⊥) → (u ≡ 2 → ⊥) → lineText "use=" (useWord u) ≡ ascii "use=BOTH\n"
+  unfolding useWord
+  use-both n m = rw (ne-eqb u 1 n, ne-eqb u 2 m)
+
+-- hex digits
+
+pub length-hex : (l : List ℕ) → length (hexText l) ≡ 2 * length l
+unfolding hexText
+length-hex [] = refl
+length-hex (b ∷ l) = omega (arith, length-hex l)
+
+hex-append : (k l : List ℕ) → hexText (k ++ l) ≡ hexText k ++ hexText l
+unfolding hexText
+hex-append [] l = refl
+hex-append (b ∷ k) l = ap (λ (t : List ℕ). hexDigit (b / 16) ∷ hexDigit (b % 16) ∷ t) (hex-append k l)
+
+pub hex-more : (key : List ℕ) (i : ℕ) → i < length key → hexText (take (i + 1) key) ≡ hexText (take i key) ++ hexText (getD key i 0 ∷ [])
+hex-more key i h =
+    ap (λ (n : ℕ). hexText (take n key)) (add-one i) ∙ ap hexText (take-suc key i 0 h) ∙ hex-append (take i key) (getD key i 0 ∷ [])
+
+-- the line of a key, of which the name and i bytes are put
+module _ {b b′ b″ : List ℕ} {at start end : ℕ} (key : List ℕ) (i : ℕ) (size : length key ≡ 24) (room : Room b at (lineText "key=" (hexText key)))
+    (name : Put b at (ascii "key=") b′ start) (some : Put b′ start (hexText (take i key)) b″ end) where
+  left : i ≤ 24 → end + (2 * (24 - i) + 1) ≤ length b″
+  left h =
+      omega (
+        arith,
+        name .ends,
+        some .ends,
+        put-length name,
+        put-length some,
+        length-hex (take i key),
+        length-take-le i key (omega arith),
+        length-hex key,
+        length-append (hexText key) (lf ∷ []),
+        room .fits,
+      )
+
+  pub key-room : (x : ℕ) → i < 24 → Room b″ end (hexText (x ∷ []))
+  key-room x h = record { fits = omega (arith, left (omega arith), length-hex (x ∷ [])) }
+
+  pub key-more : i < 24 → {b‴ : List ℕ} {last : ℕ} → Put b″ end (hexText (getD key i 0 ∷ [])) b‴ last → Put b′ start (hexText (take (i + 1) key)) b‴ last
+  key-more h p = put-as (sym (hex-more key i (omega arith))) (put-then some p)
+
+  module _ (full : i ≤ 24) (all : 24 ≤ i) where
+    pub key-end : Room b″ end (lf ∷ [])
+    key-end = record { fits = omega (arith, left full) }
+
+    pub key-put : {b‴ : List ℕ} {last : ℕ} → Put b″ end (lf ∷ []) b‴ last → Put b at (lineText "key=" (hexText key)) b‴ last
+    key-put p = put-then name (put-then (put-as (ap hexText (take-all i key (omega arith))) some) p)

@@ -1,0 +1,37 @@
+-- What the readers answer, each after what was read before it. Assumes nothing: these are definitions.
+use mathlib.Core.List.{List}
+use mathlib.Core.Bool.{true, false}
+use Prim.Native.Nat.{ℕ}
+use lib.ListN.{replicate}
+use Rattle.laws.specs.Choice.{pick}
+use Rattle.records.specs.declared.reading.Reading.{Reading}
+use Rattle.records.specs.declared.reading.KeyReading.{KeyReading}
+use Rattle.records.specs.Form.{Form, Outcome, found, wrong, readAt}
+
+-- the text s read on by a form; where what was read before is wrong, so is this
+unfoldable pub onward : {A : Type 0} → Reading → Form A → List ℕ → Outcome A
+onward before f s = pick (before .good) (readAt f s (before .place)) (wrong (before .place))
+
+abbrev pub goodTo : ℕ → ℕ → Reading
+goodTo v p = record { good = true; value = v; place = p }
+
+abbrev pub wrongAt : ℕ → Reading
+wrongAt p = record { good = false; value = 0; place = p }
+
+abbrev pub answer : Outcome ℕ → Reading
+answer (found v p) = goodTo v p
+answer (wrong p) = wrongAt p
+
+-- the same for a key
+abbrev pub noKey : List ℕ
+noKey = replicate 24 0
+
+abbrev pub keyTo : List ℕ → ℕ → KeyReading
+keyTo key p = record { good = true; key = key; place = p }
+
+abbrev pub noKeyAt : ℕ → KeyReading
+noKeyAt p = record { good = false; key = noKey; place = p }
+
+abbrev pub keyAnswer : Outcome (List ℕ) → KeyReading
+keyAnswer (found key p) = keyTo key p
+keyAnswer (wrong p) = noKeyAt p

@@ -1,0 +1,267 @@
+// Readers of a record's parts. Each goes on after what was read before it, and passes on a wrong place that was found there.
+ghost use mathlib.Core.Path.{_≡_};
+ghost use Prim.Native.Nat.{_≤_};
+ghost use Rattle.records.specs.Form.{done, readAt, literal, named};
+ghost use Rattle.records.specs.Decimals.{mayBegin, mayFollow, after, decimal};
+ghost use Rattle.records.specs.Words.{useForm};
+ghost use Rattle.records.specs.Hexes.{hexOr, halfByte, byte, keyForm};
+ghost use Rattle.records.specs.Reading.{goodTo, wrongAt, noKeyAt, onward, answer, keyAnswer};
+
+// What is read so far: the last value and the place after its text; or, once a byte is wrong, no value and the place of that byte.
+pub struct Reading {
+    pub good: bool,
+    pub value: u64,
+    pub place: usize,
+}
+
+// The same for a key.
+pub struct KeyReading {
+    pub good: bool,
+    pub key: [u8; 24],
+    pub place: usize,
+}
+
+pub fn good_to(value: u64, place: usize) -> Reading
+    ensures { λ r. ⌜ r ≡ goodTo value place ⌝ }
+{
+    Reading {
+        good: true,
+        value,
+        place,
+    }
+}
+
+fn wrong_at(place: usize) -> Reading
+    ensures { λ r. ⌜ r ≡ wrongAt place ⌝ }
+{
+    Reading {
+        good: false,
+        value: 0,
+        place,
+    }
+}
+
+fn no_key_at(place: usize) -> KeyReading
+    ensures { λ r. ⌜ r ≡ noKeyAt place ⌝ }
+{
+    KeyReading {
+        good: false,
+        key: [0u8; 24],
+        place,
+    }
+}
+
+// The given bytes.
+pub fn read_literal<'a>(s: &'a [u8], before: Reading, bytes: &'a [u8]) -> Reading
+    ensures { λ r. ⌜ r ≡ answer (onward before (literal (now (bytes .entry))) (now (s .entry))) ⌝ }
+{
+    let mut at = before.place;
+    if !before.good {
+        return wrong_at(at);
+    }
+    let mut i = 0;
+    while i < bytes.len() {
+        if s.len() <= at {
+            return wrong_at(at);
+        }
+        if s[at] != bytes[i] {
+            return wrong_at(at);
+        }
+        at += 1;
+        i += 1;
+    }
+    good_to(0, at)
+}
+
+// May a number from `low` to `high` begin with the byte `b`?
+fn may_begin(low: u64, high: u64, b: u8) -> bool
+    requires { ⌜ low ≤ 9 ⌝ }
+    ensures { λ r. ⌜ r ≡ mayBegin low high b ⌝ }
+{
+    if b < 48 {
+        return false;
+    }
+    if 57 < b {
+        return false;
+    }
+    let digit = (b - 48) as u64;
+    low <= digit && digit <= high
+}
+
+// May the byte `b` follow digits of the value `n`?
+fn may_follow(high: u64, n: u64, b: u8) -> bool
+    requires { ⌜ (n ≤ high) × (high ≤ 65535) ⌝ }
+    ensures { λ r. ⌜ r ≡ mayFollow high n b ⌝ }
+{
+    if b < 48 {
+        return false;
+    }
+    if 57 < b {
+        return false;
+    }
+    if n == 0 {
+        return false;
+    }
+    n * 10 + ((b - 48) as u64) <= high
+}
+
+// After digits of the value `n`: more digits, and LF.
+fn read_after(s: &[u8], at: usize, high: u64, n: u64) -> Reading
+    requires { ⌜ (n ≤ high) × (high ≤ 65535) ⌝ }
+    ensures { λ r. ⌜ r ≡ answer (readAt (after high n) (now (s .entry)) at) ⌝ }
+{
+    let mut value = n;
+    let mut i = at;
+    while i < s.len() {
+        let b = s[i];
+        if b == 10 {
+            return good_to(value, i + 1);
+        }
+        if !may_follow(high, value, b) {
+            return wrong_at(i);
+        }
+        value = value * 10 + ((b - 48) as u64);
+        i += 1;
+    }
+    wrong_at(i)
+}
+
+// A number from `low` to `high`, ended by LF.
+pub fn read_decimal(s: &[u8], before: Reading, low: u64, high: u64) -> Reading
+    requires { ⌜ (low ≤ 9) × (high ≤ 65535) ⌝ }
+    ensures { λ r. ⌜ r ≡ answer (onward before (decimal low high) (now (s .entry))) ⌝ }
+{
+    let at = before.place;
+    if !before.good {
+        return wrong_at(at);
+    }
+    if s.len() <= at {
+        return wrong_at(at);
+    }
+    let first = s[at];
+    if !may_begin(low, high, first) {
+        return wrong_at(at);
+    }
+    read_after(s, at + 1, high, (first - 48) as u64)
+}
+
+// A line with a number.
+pub fn read_line<'a>(s: &'a [u8], before: Reading, name: &'a [u8], low: u64, high: u64) -> Reading
+    requires { ⌜ (low ≤ 9) × (high ≤ 65535) ⌝ }
+    ensures { λ r. ⌜ r ≡ answer (onward before (named (now (name .entry)) (decimal low high)) (now (s .entry))) ⌝ }
+{
+    let named = read_literal(s, before, name);
+    read_decimal(s, named, low, high)
+}
+
+// The given bytes, for the value.
+fn read_word<'a>(s: &'a [u8], before: Reading, word: &'a [u8], value: u64) -> Reading
+    ensures { λ r. ⌜ r ≡ answer (onward before (named (now (word .entry)) (done value)) (now (s .entry))) ⌝ }
+{
+    let end = read_literal(s, before, word);
+    let at = end.place;
+    if !end.good {
+        return wrong_at(at);
+    }
+    good_to(value, at)
+}
+
+// SEND, RECV or BOTH, ended by LF.
+pub fn read_use(s: &[u8], before: Reading) -> Reading
+    ensures { λ r. ⌜ r ≡ answer (onward before useForm (now (s .entry))) ⌝ }
+{
+    let at = before.place;
+    if !before.good {
+        return wrong_at(at);
+    }
+    if s.len() <= at {
+        return wrong_at(at);
+    }
+    let letter = s[at];
+    let rest = good_to(0, at + 1);
+    if letter == b'S' {
+        return read_word(s, rest, b"END\n", 1);
+    }
+    if letter == b'R' {
+        return read_word(s, rest, b"ECV\n", 2);
+    }
+    if letter == b'B' {
+        return read_word(s, rest, b"OTH\n", 3);
+    }
+    wrong_at(at)
+}
+
+// The value of a lower-case hex digit, or 16.
+fn hex_value(c: u8) -> u64
+    ensures { λ r. ⌜ r ≡ hexOr c ⌝ }
+{
+    if c < 48 {
+        return 16;
+    }
+    if c <= 57 {
+        return (c - 48) as u64;
+    }
+    if c < 97 {
+        return 16;
+    }
+    if c <= 102 {
+        return (c - 87) as u64;
+    }
+    16
+}
+
+// One hex digit.
+fn read_half(s: &[u8], before: Reading) -> Reading
+    ensures { λ r. ⌜ r ≡ answer (onward before halfByte (now (s .entry))) ⌝ }
+{
+    let at = before.place;
+    if !before.good {
+        return wrong_at(at);
+    }
+    if s.len() <= at {
+        return wrong_at(at);
+    }
+    let value = hex_value(s[at]);
+    if value == 16 {
+        return wrong_at(at);
+    }
+    good_to(value, at + 1)
+}
+
+// A byte by two hex digits.
+fn read_byte(s: &[u8], before: Reading) -> Reading
+    ensures { λ r. ⌜ r ≡ answer (onward before byte (now (s .entry))) ⌝ }
+{
+    let high = read_half(s, before);
+    let low = read_half(s, high);
+    let at = low.place;
+    if !low.good {
+        return wrong_at(at);
+    }
+    good_to(high.value * 16 + low.value, at)
+}
+
+// A key, ended by LF.
+pub fn read_key(s: &[u8], before: Reading) -> KeyReading
+    ensures { λ r. ⌜ r ≡ keyAnswer (onward before keyForm (now (s .entry))) ⌝ }
+{
+    let mut key = [0u8; 24];
+    let mut last = before;
+    let mut i = 0;
+    while i < 24 {
+        let b = read_byte(s, last);
+        key[i] = b.value as u8;
+        last = b;
+        i += 1;
+    }
+    let end = read_literal(s, last, b"\n");
+    let place = end.place;
+    if !end.good {
+        return no_key_at(place);
+    }
+    KeyReading {
+        good: true,
+        key,
+        place,
+    }
+}

@@ -1,0 +1,110 @@
+// Writers of a record's parts. Each puts a text into the buffer from a place on, and answers with the place at which it ends.
+ghost use mathlib.Core.Path.{_≡_};
+ghost use mathlib.Core.List.{[], _∷_, _++_};
+ghost use Prim.Native.Nat.{_<_};
+ghost use lib.ListN.{length};
+ghost use Rattle.records.specs.Text.{lf, digits, useWord, hexDigit, hexText, lineText};
+ghost use Rattle.records.specs.Writing.{Room, Put};
+
+// The given bytes.
+pub fn put_bytes<'a>(buffer: &'a mut [u8], at: usize, bytes: &'a [u8]) -> usize
+    requires { ⌜ Room (now buffer) at (now bytes) ⌝ }
+    ensures { λ r. ⌜ Put (now (buffer .entry)) at (now (bytes .entry)) (now (buffer .exit)) r ⌝ }
+{
+    let mut i = 0;
+    while i < bytes.len() {
+        let b = bytes[i];
+        buffer[at + i] = b;
+        i += 1;
+    }
+    at + i
+}
+
+// How many digits a number has.
+pub fn digit_count(n: u64) -> usize
+    ensures { λ r. ⌜ r ≡ length (digits n) ⌝ }
+{
+    let mut count = 1;
+    let mut left = n;
+    while 10 <= left {
+        left /= 10;
+        count += 1;
+    }
+    count
+}
+
+// The digits of a number, the last one first.
+pub fn put_digits(buffer: &mut [u8], at: usize, n: u64) -> usize
+    requires { ⌜ Room (now buffer) at (digits n) ⌝ }
+    ensures { λ r. ⌜ Put (now (buffer .entry)) at (digits n) (now (buffer .exit)) r ⌝ }
+{
+    let end = at + digit_count(n);
+    let mut i = end - 1;
+    let mut left = n;
+    while 10 <= left {
+        buffer[i] = 48 + ((left % 10) as u8);
+        left /= 10;
+        i -= 1;
+    }
+    buffer[i] = 48 + (left as u8);
+    end
+}
+
+// A line with a number.
+pub fn put_line<'a>(buffer: &'a mut [u8], at: usize, name: &'a [u8], n: u64) -> usize
+    requires { ⌜ Room (now buffer) at (now name ++ (digits n ++ (lf ∷ []))) ⌝ }
+    ensures { λ r. ⌜ Put (now (buffer .entry)) at (now (name .entry) ++ (digits n ++ (lf ∷ []))) (now (buffer .exit)) r ⌝ }
+{
+    let value = put_bytes(buffer, at, name);
+    let end = put_digits(buffer, value, n);
+    put_bytes(buffer, end, b"\n")
+}
+
+// The line of a use.
+pub fn put_use(buffer: &mut [u8], at: usize, usage: u64) -> usize
+    requires { ⌜ Room (now buffer) at (lineText "use=" (useWord usage)) ⌝ }
+    ensures { λ r. ⌜ Put (now (buffer .entry)) at (lineText "use=" (useWord usage)) (now (buffer .exit)) r ⌝ }
+{
+    if usage == 1 {
+        return put_bytes(buffer, at, b"use=SEND\n");
+    }
+    if usage == 2 {
+        return put_bytes(buffer, at, b"use=RECV\n");
+    }
+    put_bytes(buffer, at, b"use=BOTH\n")
+}
+
+fn hex_digit(d: u8) -> u8
+    requires { ⌜ d < 16 ⌝ }
+    ensures { λ r. ⌜ r ≡ hexDigit d ⌝ }
+{
+    if d < 10 {
+        return 48 + d;
+    }
+    87 + d
+}
+
+// A byte by two hex digits.
+fn put_byte(buffer: &mut [u8], at: usize, b: u8) -> usize
+    requires { ⌜ Room (now buffer) at (hexText (b ∷ [])) ⌝ }
+    ensures { λ r. ⌜ Put (now (buffer .entry)) at (hexText (b ∷ [])) (now (buffer .exit)) r ⌝ }
+{
+    buffer[at] = hex_digit(b / 16);
+    buffer[at + 1] = hex_digit(b % 16);
+    at + 2
+}
+
+// The line of a key.
+pub fn put_key(buffer: &mut [u8], at: usize, key: [u8; 24]) -> usize
+    requires { ⌜ Room (now buffer) at (lineText "key=" (hexText key)) ⌝ }
+    ensures { λ r. ⌜ Put (now (buffer .entry)) at (lineText "key=" (hexText key)) (now (buffer .exit)) r ⌝ }
+{
+    let mut end = put_bytes(buffer, at, b"key=");
+    let mut i = 0;
+    while i < 24 {
+        let next = put_byte(buffer, end, key[i]);
+        end = next;
+        i += 1;
+    }
+    put_bytes(buffer, end, b"\n")
+}
