@@ -1,0 +1,120 @@
+-- `listing::put_slot_line`: item after item, in the room of the longest line. Assumes nothing.
+use Prim.Native.Nat.{_≤_}
+use native.Mathlib.Omega.{arith}
+use borrow.Author.Needs.{needs}
+use lib.ListN.{length}
+use Rattle.records.specs.Writing.{Room}
+use Rattle.records.proofs.Puts.{put-length}
+use Rattle.sheet.specs.Sheet.{slotLine, longestLine}
+use Rattle.sheet.proofs.Left.{left-all, left-room, left-next, left-last, next-room}
+use Rattle.sheet.proofs.Lines.{line-short}
+use Rattle.sheet.proofs.listing.put_slot_line.Statement.{statement}
+use Rattle.sheet.proofs.listing.put_slot_line.Tie as tie
+
+-- the place before each item's own
+abbrev start : tie.After-put-item → tie.After-struct-known
+start c = c .before .before .before
+
+abbrev number : tie.After-put-item2 → tie.After-put-item
+number c = c .before .before .before .before .before
+
+abbrev version : tie.After-put-item3 → tie.After-put-item2
+version c = c .before .before .before .before .before .before
+
+abbrev algorithm : tie.After-put-use → tie.After-put-item3
+algorithm c = c .before .before .before .before
+
+abbrev usage : tie.After-put-item4 → tie.After-put-use
+usage c = c .before .before .before .before .before .before
+
+abbrev side : tie.After-put-line → tie.After-put-item4
+side c = c .before .before .before .before .before .before
+
+short : (c : tie.After-struct-known) → length (slotLine (c .before .before .args .number) (c .before .before .args .f)) ≤ longestLine
+short c = let pre = c .before .before .pre in line-short _ (c .before .before .args .f) (pre .1) (search needs) (pre .2)
+
+whole : (c : tie.After-struct-known) → Room (c .before .before .args .buffer .now) (c .before .before .args .at) (slotLine (c .before .before .args .number) (c .before .before .args .f))
+whole c = record { fits = omega (arith, short c) }
+
+put-item-requires : tie.Need-put-item-requires
+unfolding slotLine
+put-item-requires c κs = next-room _ (whole (c .before .before)) left-all
+
+put-item-requires-2 : tie.Need-put-item-requires-2
+unfolding slotLine
+put-item-requires-2 c κs =
+    let i1 = c .before .before .before .before in
+    next-room _ (whole (start i1)) (left-next left-all (i1 .put-item .ensures))
+
+put-item-requires-3 : tie.Need-put-item-requires-3
+unfolding slotLine
+put-item-requires-3 c κs =
+    let i2 = c .before .before .before .before .before in
+    let i1 = number i2 in
+    next-room _ (whole (start i1)) (left-next (left-next left-all (i1 .put-item .ensures)) (i2 .put-item2 .ensures))
+
+put-use-requires : tie.Need-put-use-requires
+unfolding slotLine
+put-use-requires c κs =
+    let i3 = c .before .before .before in
+    let i2 = version i3 in
+    let i1 = number i2 in
+    next-room _ (whole (start i1)) (left-next (left-next (left-next left-all (i1 .put-item .ensures)) (i2 .put-item2 .ensures)) (i3 .put-item3 .ensures))
+
+put-item-requires-4 : tie.Need-put-item-requires-4
+unfolding slotLine
+put-item-requires-4 c κs =
+    let i4 = c .before .before .before .before .before in
+    let i3 = algorithm i4 in
+    let i2 = version i3 in
+    let i1 = number i2 in
+    next-room _ (whole (start i1))
+    (left-next (left-next (left-next (left-next left-all (i1 .put-item .ensures)) (i2 .put-item2 .ensures)) (i3 .put-item3 .ensures)) (i4 .put-use .ensures))
+
+put-line-requires : tie.Need-put-line-requires
+unfolding slotLine
+put-line-requires c κs =
+    let i5 = c .before .before .before .before .before in
+    let i4 = usage i5 in
+    let i3 = algorithm i4 in
+    let i2 = version i3 in
+    let i1 = number i2 in
+    left-room (whole (start i1))
+    (left-next (left-next (left-next (left-next (left-next left-all (i1 .put-item .ensures)) (i2 .put-item2 .ensures)) (i3 .put-item3 .ensures)) (i4 .put-use .ensures)) (i5 .put-item4 .ensures))
+
+returns : tie.Need-returns
+unfolding slotLine
+returns c =
+    let i6 = c .before .before in
+    let i5 = side i6 in
+    let i4 = usage i5 in
+    let i3 = algorithm i4 in
+    let i2 = version i3 in
+    let i1 = number i2 in
+    let put =
+    left-last
+    (left-next (left-next (left-next (left-next (left-next left-all (i1 .put-item .ensures)) (i2 .put-item2 .ensures)) (i3 .put-item3 .ensures)) (i4 .put-use .ensures)) (i5 .put-item4 .ensures))
+    (i6 .put-line .ensures) in
+    (omega (arith, put .ends, short (start i1)), put)
+
+pub put-slot-line-spec : {M : Type 1} → statement M
+put-slot-line-spec =
+    tie.close
+    (tie.spec
+    (λ c. search needs)
+    (λ c. search needs)
+    put-item-requires
+    (λ c. search needs)
+    put-item-requires-2
+    (λ c. search needs)
+    (λ c. search needs)
+    put-item-requires-3
+    put-use-requires
+    (λ c. search needs)
+    (λ c. search needs)
+    put-item-requires-4
+    (λ c. search needs)
+    (λ c. search needs)
+    put-line-requires
+    (λ c. put-length (returns c .1))
+    returns)
