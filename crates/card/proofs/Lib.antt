@@ -1,0 +1,10 @@
+pub mod Copies
+pub mod Passed
+pub mod Laws
+pub mod Values
+pub mod SlotLaws
+pub mod Walk
+pub mod Shared
+pub mod CallRules
+pub mod TableCalls
+pub mod LentAnswers

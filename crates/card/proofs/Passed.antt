@@ -1,0 +1,95 @@
+-- What holds of a call that passed its tests. Assumes nothing.
+use mathlib.Core.Bool.{true, false, not, _||_}
+use mathlib.Core.Path.{_≡_}
+use mathlib.Core.List.{List}
+use Prim.Native.Nat.{ℕ, _+_, _*_, _<_, _≤_}
+use native.Mathlib.Omega.{arith}
+use borrow.Author.Tests.{ltb-false, eqb-true, eqb-false, not-false}
+use lib.Dec.{eqb, ltb, lit<}
+use lib.ListN.{length}
+use Rattle.laws.proofs.Cases.{neither, unpicked, unpicked-own}
+use Rattle.fields.specs.Fields.{isAlgorithm}
+use Rattle.card.specs.Span.{spanRefusal}
+use Rattle.slots.specs.declared.Slot.{Slot}
+use Rattle.slots.specs.Slots.{hasBad, slotAt}
+use Rattle.slots.specs.Rights.{isDirection, includes}
+use Rattle.slots.specs.Calls.{slotRefusal}
+use Rattle.slots.proofs.Passed.{SlotPassed, slot-passed}
+use Rattle.card.specs.Bench.{benchRefusal}
+use Rattle.card.specs.Traffic.{onSide, useRefusal, trafficRefusal}
+
+pub record SpanPassed (size start n skip : ℕ) : Type 0 where
+  pub small : size ≤ 8192
+  pub streamed : skip + n ≤ 8288
+  pub inside : start + n ≤ 8 * size
+
+pub span-passed : (size start n skip : ℕ) → spanRefusal size start n skip ≡ 0 → SpanPassed size start n skip
+unfolding spanRefusal
+span-passed size start n skip e =
+    let five = unpicked (ltb 8192 size) 5 _ (lit< tt) e in
+    let four = unpicked (eqb n 0 || ltb 8288 (skip + n)) 4 _ (lit< tt) (five .1) in
+    let six = unpicked (ltb (8 * size) (start + n)) 6 _ (lit< tt) (four .1) in
+    record {
+      small = ltb-false 8192 size (five .0);
+      streamed = ltb-false 8288 (skip + n) (neither (eqb n 0) (ltb 8288 (skip + n)) (four .0) .1);
+      inside = ltb-false (8 * size) (start + n) (six .0);
+    }
+
+pub record BenchPassed (key iv buf : List ℕ) (n : ℕ) : Type 0 where
+  pub key-24 : length key ≡ 24
+  pub iv-10 : length iv ≡ 10
+  pub span : SpanPassed (length buf) 0 n 0
+
+pub bench-passed : (algorithm : ℕ) (key iv buf : List ℕ) (n : ℕ) → benchRefusal algorithm key iv buf n ≡ 0 → BenchPassed key iv buf n
+unfolding benchRefusal
+bench-passed algorithm key iv buf n e =
+    let one = unpicked (not (isAlgorithm algorithm)) 1 _ (lit< tt) e in
+    let two = unpicked (not (eqb (length key) 24)) 2 _ (lit< tt) (one .1) in
+    let three = unpicked (not (eqb (length iv) 10)) 3 _ (lit< tt) (two .1) in
+    record {
+      key-24 = eqb-true (length key) 24 (not-false (eqb (length key) 24) (two .0));
+      iv-10 = eqb-true (length iv) 10 (not-false (eqb (length iv) 10) (three .0));
+      span = span-passed (length buf) 0 n 0 (three .1);
+    }
+
+-- a slot's key may be used in this direction with this initial value
+pub record UsePassed (table : List Slot) (direction number : ℕ) (iv : List ℕ) : Type 0 where
+  pub good : hasBad table ≡ false
+  pub known : isDirection direction ≡ true
+  pub slot : SlotPassed table number
+  pub included : includes (slotAt table number .fields .usage) direction ≡ true
+  pub iv-10 : length iv ≡ 10
+  pub on-side : onSide direction (slotAt table number .fields) iv ≡ true
+
+pub use-passed : (table : List Slot) (direction number : ℕ) (iv : List ℕ) → useRefusal table direction number iv ≡ 0 → UsePassed table direction number iv
+unfolding useRefusal
+use-passed table direction number iv e =
+    let f = slotAt table number .fields in
+    let good = unpicked (hasBad table) 16 _ (lit< tt) e in
+    let known = unpicked (not (isDirection direction)) 10 _ (lit< tt) (good .1) in
+    let slot = unpicked-own (slotRefusal table number) _ (known .1) in
+    let included = unpicked (not (includes (f .usage) direction)) 12 _ (lit< tt) (slot .1) in
+    let ten = unpicked (not (eqb (length iv) 10)) 3 _ (lit< tt) (included .1) in
+    let side = unpicked (not (onSide direction f iv)) 13 _ (lit< tt) (ten .1) in
+    record {
+      good = good .0;
+      known = not-false (isDirection direction) (known .0);
+      slot = slot-passed table number (eqb-true (slotRefusal table number) 0 (slot .0));
+      included = not-false (includes (f .usage) direction) (included .0);
+      iv-10 = eqb-true (length iv) 10 (not-false (eqb (length iv) 10) (ten .0));
+      on-side = not-false (onSide direction f iv) (side .0);
+    }
+
+pub record TrafficPassed (table : List Slot) (direction number : ℕ) (iv buf : List ℕ) (start n skip : ℕ) : Type 0 where
+  pub allowed : UsePassed table direction number iv
+  pub span : SpanPassed (length buf) start n skip
+
+pub traffic-passed : (table : List Slot) (direction number : ℕ) (iv buf : List ℕ) (start n skip : ℕ)
+    → trafficRefusal table direction number iv buf start n skip ≡ 0 → TrafficPassed table direction number iv buf start n skip
+unfolding trafficRefusal
+traffic-passed table direction number iv buf start n skip e =
+    let opened = unpicked-own (useRefusal table direction number iv) _ e in
+    record {
+      allowed = use-passed table direction number iv (eqb-true (useRefusal table direction number iv) 0 (opened .0));
+      span = span-passed (length buf) start n skip (opened .1);
+    }

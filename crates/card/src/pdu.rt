@@ -1,0 +1,24 @@
+// The plan of a direct mode PDU, for C.
+ghost use mathlib.Core.Path.{_≡_};
+ghost use Rattle.plan.specs.Plan.{planOf};
+ghost use Rattle.card.specs.Faces.{pieceNumbers};
+
+// Leaves start, length and skip of the first piece and of the second in `pieces`; zeros where there is none, and on a refusal.
+#[no_mangle]
+pub extern "C" fn card_plan(
+    kind: u64,
+    state: u64,
+    flag: u64,
+    length: usize,
+    address: usize,
+    sdu: usize,
+    pieces: &mut [usize; 6],
+) -> u8
+    ensures { λ r. ⌜ (r ≡ planOf kind state flag length address sdu .refusal) × (now (pieces .exit) ≡ pieceNumbers (planOf kind state flag length address sdu)) ⌝ }
+{
+    let p = plan::plan_pdu(kind, state, flag, length, address, sdu);
+    let a = p.first;
+    let b = p.second;
+    *pieces = [a.start, a.length, a.skip, b.start, b.length, b.skip];
+    p.refusal
+}

@@ -1,0 +1,61 @@
+// Key records as text, for C.
+ghost use mathlib.Core.Path.{_≡_};
+ghost use Rattle.records.specs.Record.{recordRead, recordWritten, bufferWritten};
+ghost use Rattle.card.specs.Faces.{shownNumbers, asking};
+use fields::Asked;
+
+// Reads one record from the front of a text: leaves its number and fields in `shown`, its key in `key`, and how many bytes it took in
+// `used`. On refusal 15 the line is left in `line`, and zeros elsewhere.
+#[no_mangle]
+pub extern "C" fn card_record_read(
+    text: &[u8],
+    shown: &mut [u64; 6],
+    key: &mut [u8; 24],
+    used: &mut usize,
+    line: &mut usize,
+) -> u8
+    ensures { λ r. ⌜ (r ≡ recordRead (now (text .entry)) .refusal) × (now (shown .exit) ≡ shownNumbers (recordRead (now (text .entry)) .number) (recordRead (now (text .entry)) .fields)) × (now (key .exit) ≡ recordRead (now (text .entry)) .key) × (now (used .exit) ≡ recordRead (now (text .entry)) .used) × (now (line .exit) ≡ recordRead (now (text .entry)) .line) ⌝ }
+{
+    let r = records::read_record(text);
+    let f = r.fields;
+    let k = r.key;
+    *shown = [
+        r.number,
+        f.version as u64,
+        f.algorithm as u64,
+        f.usage as u64,
+        f.side as u64,
+        f.place as u64,
+    ];
+    *key = k;
+    *used = r.used;
+    *line = r.line;
+    r.refusal
+}
+
+// Writes a record to the front of a buffer, keeps the bytes after it, and leaves the text's length in `length`.
+#[no_mangle]
+pub extern "C" fn card_record_write(
+    number: u64,
+    version: u16,
+    algorithm: u64,
+    usage: u64,
+    side: u64,
+    place: u64,
+    key: &[u8; 24],
+    buf: &mut [u8],
+    length: &mut usize,
+) -> u8
+    ensures { λ r. ⌜ (r ≡ recordWritten number (asking version algorithm usage side place) (now (key .entry)) (now (buf .entry)) .refusal) × (now (length .exit) ≡ recordWritten number (asking version algorithm usage side place) (now (key .entry)) (now (buf .entry)) .length) × (now (buf .exit) ≡ bufferWritten number (asking version algorithm usage side place) (now (key .entry)) (now (buf .entry))) ⌝ }
+{
+    let asked = Asked {
+        version,
+        algorithm,
+        usage,
+        side,
+        place,
+    };
+    let w = records::write_record(number, asked, *key, buf);
+    *length = w.length;
+    w.refusal
+}
