@@ -1,0 +1,62 @@
+-- The worked example of docs/DEMAND-3.md: two loads, a move, traffic, and what is seen of them whatever the two keys are. Assumes nothing.
+use mathlib.Core.List.{List, [], _∷_, map}
+use mathlib.Core.Option.{some}
+use mathlib.Core.Path.{_≡_, refl}
+use Prim.Native.Nat.{ℕ}
+use lib.ListN.{replicate}
+use Rattle.laws.specs.Bits.{bitOf, bitAt}
+use Rattle.fields.specs.declared.Asked.{Asked}
+use Rattle.slots.specs.Slots.{allZero, isEmpty, isFilled, isBad, hasBad}
+use Rattle.slots.specs.Calls.{loadRefusal, moveRefusal, slotRefusal, clearRefusal}
+use Rattle.span.specs.Span.{blocksUsed}
+use Rattle.card.specs.Span.{spanRefusal}
+use Rattle.card.specs.Traffic.{useRefusal, trafficRefusal, trafficBlocks}
+use Rattle.runs.specs.Calls.{Call, load, move, clear, read, traffic}
+use Rattle.runs.specs.Card.{ourCard}
+use Rattle.runs.specs.Step.{Seen, step}
+use Rattle.runs.specs.Trace.{traced}
+use Rattle.runs.specs.Run.{start, next, run, stateAt, traceAt}
+
+-- a key of TEA6 for sending only, with side 0 at place 28; and a key of TEA5 for both, with side 1 at place 0
+
+abbrev sendOnly : Asked
+sendOnly = record { version = 17; algorithm = 6; usage = 1; side = 0; place = 28 }
+
+abbrev both : Asked
+both = record { version = 4; algorithm = 5; usage = 3; side = 1; place = 0 }
+
+-- an initial value with bits 0 to 7 and bits 24 to 31 so, and two bytes to cipher
+abbrev ivWith : ℕ → ℕ → List ℕ
+ivWith x y = x ∷ 0 ∷ 0 ∷ y ∷ replicate 6 0
+
+abbrev pdu : List ℕ
+pdu = 0xa5 ∷ 0x3c ∷ []
+
+abbrev pub example : List ℕ → List ℕ → List Call
+example key other =
+    load 1 sendOnly key
+    ∷ load 2 both other
+    ∷ move 1 3 0
+    ∷ traffic 2 3 (ivWith 0 8) pdu 3 8 0
+    ∷ traffic 1 3 (ivWith 0 8) pdu 3 8 0
+    ∷ traffic 1 3 (ivWith 0 0) pdu 3 8 0
+    ∷ traffic 1 2 (ivWith 128 0) pdu 0 16 255
+    ∷ move 3 4 3
+    ∷ read 3
+    ∷ clear 3
+    ∷ read 3
+    ∷ []
+
+module _ (key other : List ℕ) where
+  pub refusals : map (λ (x : Seen). x .refusal) (run ourCard start (example key other)) ≡ 0 ∷ 0 ∷ 0 ∷ 12 ∷ 13 ∷ 0 ∷ 0 ∷ 14 ∷ 0 ∷ 0 ∷ 8 ∷ []
+  unfolding run next step traced loadRefusal moveRefusal slotRefusal clearRefusal useRefusal trafficRefusal spanRefusal hasBad isBad isFilled isEmpty allZero bitAt bitOf
+  refusals = refl
+
+  pub blocks : map (λ (x : Seen). x .blocks) (run ourCard start (example key other)) ≡ 0 ∷ 0 ∷ 0 ∷ 0 ∷ 0 ∷ 1 ∷ 2 ∷ 0 ∷ 0 ∷ 0 ∷ 0 ∷ []
+  unfolding run next step traced loadRefusal moveRefusal slotRefusal clearRefusal useRefusal trafficRefusal trafficBlocks blocksUsed spanRefusal hasBad isBad isFilled isEmpty allZero bitAt bitOf
+  blocks = refl
+
+  -- the key of the accepted send, call 5, comes from the load at place 0
+  pub origin : traceAt ourCard (example key other) 5 3 ≡ some 0
+  unfolding run next step stateAt traced loadRefusal moveRefusal slotRefusal clearRefusal useRefusal trafficRefusal spanRefusal hasBad isBad isFilled isEmpty allZero bitAt bitOf
+  origin = refl

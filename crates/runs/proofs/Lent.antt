@@ -1,0 +1,35 @@
+-- The step is also that of the calls on a lent list of slot records: on 32 records, what their contracts cite is the step. Assumes nothing.
+use mathlib.Core.List.{List}
+use mathlib.Core.Path.{_≡_}
+use Prim.Native.Nat.{ℕ}
+use borrow.Author.Tests.{eq-eqb}
+use lib.ListN.{length}
+use Rattle.fields.specs.declared.Asked.{Asked}
+use Rattle.slots.specs.declared.Slot.{Slot}
+use Rattle.card.specs.Table.{loadedIn, movedIn, clearedIn, shownIn, trafficRefusalIn, trafficBlocksIn, traffickedIn}
+use Rattle.runs.specs.Calls.{load, move, clear, read, traffic}
+use Rattle.runs.specs.Card.{ourCard}
+use Rattle.runs.specs.Step.{changing, reading, ciphering, step}
+
+module _ (t : List Slot) (whole : length t ≡ 32) where
+  pub lent-load-steps : (number : ℕ) (a : Asked) (key : List ℕ) → changing (loadedIn t number a key) ≡ step ourCard t (load number a key)
+  unfolding step
+  lent-load-steps number a key = rw (eq-eqb (length t) 32 whole)
+
+  pub lent-move-steps : (from to asked : ℕ) → changing (movedIn t from to asked) ≡ step ourCard t (move from to asked)
+  unfolding step
+  lent-move-steps from to asked = rw (eq-eqb (length t) 32 whole)
+
+  pub lent-clear-steps : (number : ℕ) → changing (clearedIn t number) ≡ step ourCard t (clear number)
+  unfolding step
+  lent-clear-steps number = rw (eq-eqb (length t) 32 whole)
+
+  pub lent-read-steps : (number : ℕ) → reading t (shownIn t number) ≡ step ourCard t (read number)
+  unfolding step
+  lent-read-steps number = rw (eq-eqb (length t) 32 whole)
+
+  pub lent-traffic-steps : (direction number : ℕ) (iv buf : List ℕ) (begin n skip : ℕ)
+      → ciphering t (trafficRefusalIn t direction number iv buf begin n skip) (trafficBlocksIn t direction number iv buf begin n skip) (traffickedIn t direction number iv buf begin n skip)
+      ≡ step ourCard t (traffic direction number iv buf begin n skip)
+  unfolding step
+  lent-traffic-steps direction number iv buf begin n skip = rw (eq-eqb (length t) 32 whole)

@@ -1,0 +1,12 @@
+pub mod Each
+pub mod Origins
+pub mod Traffic
+pub mod Related
+pub mod Agree
+pub mod Sends
+pub mod Demand
+pub mod Corollaries
+pub mod Steps
+pub mod Example
+pub mod Wrong
+pub mod Lent
