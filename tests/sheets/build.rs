@@ -1,0 +1,31 @@
+//! Links the sheet's static library: `SHEET_LIBRARY`, or the repository's target/staticlib/libsheet.a.
+
+use std::env;
+use std::path::PathBuf;
+
+fn main() {
+    println!("cargo::rerun-if-env-changed=SHEET_LIBRARY");
+    let library = sheet_library();
+    let name = library.file_name().and_then(|name| name.to_str());
+    let linked = name.and_then(|name| name.strip_prefix("lib")?.strip_suffix(".a"));
+    match (library.parent(), linked) {
+        (Some(folder), Some(linked)) if library.is_file() => {
+            println!("cargo::rerun-if-changed={}", library.display());
+            println!("cargo::rustc-link-search=native={}", folder.display());
+            println!("cargo::rustc-link-lib=static={linked}");
+        }
+        _ => println!(
+            "cargo::error={} is missing or no library: 'rt staticlib sheet' writes it",
+            library.display()
+        ),
+    }
+}
+
+fn sheet_library() -> PathBuf {
+    match env::var_os("SHEET_LIBRARY") {
+        Some(path) => PathBuf::from(path),
+        None => PathBuf::from(env!("CARGO_MANIFEST_DIR"))
+            .join("../../target/staticlib")
+            .join("libsheet.a"),
+    }
+}
