@@ -1,0 +1,27 @@
+/* Speed of the bench call beside its peers, and of traffic beside the bench call.
+   bench inputs            prints inputs for the second program
+   bench measure EXPECTED  holds all calls to its output, then measures them
+   Exit 0: done; 1: a fault; 2: measured, and a bar is missed. */
+
+#include <stdio.h>
+#include <string.h>
+
+#include "agree.h"
+#include "measure.h"
+#include "subjects.h"
+
+int main(int count, char **words)
+{
+    if (count == 2 && strcmp(words[1], "inputs") == 0) {
+        agree_print_inputs();
+        return 0;
+    }
+    if (count == 3 && strcmp(words[1], "measure") == 0) {
+        subjects_prepare();
+        if (agree_check(words[2]) != 0)
+            return 1;
+        return measure_bench() + measure_traffic() > 0 ? 2 : 0;
+    }
+    fprintf(stderr, "usage: bench inputs | bench measure EXPECTED\n");
+    return 1;
+}

@@ -1,0 +1,13 @@
+/* The measurement: interleaved batches of calls, their medians, and the bars. */
+
+#ifndef MEASURE_H
+#define MEASURE_H
+
+/* Measures the bench call of all subjects and prints the table. Returns how many bars are missed. */
+int measure_bench(void);
+
+/* Measures the card's traffic beside its bench call, and prints a line for each length. Returns how many bars are
+   missed. */
+int measure_traffic(void);
+
+#endif
