@@ -1,0 +1,154 @@
+/*
+ * The card: TEA5, TEA6 and TEA7 (ETSI TS 104 053-2) behind thirty-two key slots.
+ *
+ * Link with libcard.a, which `rt staticlib card` writes. It holds no state of its own, takes no memory and calls
+ * nothing but memcpy and memset. The table of slots is the caller's, and a call sees only what it is lent.
+ *
+ * Every call answers: CARD_DONE, or the number of a refusal. The tests are made in the order in which a call lists
+ * them here, and the first that fails gives the number. A refused call changes no bit of a buffer or of a slot; the
+ * numbers that it reports are 0.
+ *
+ * What the caller sees to, since no call can test it:
+ *   - A pointer is not null, also where its length is 0, and so many bytes, slots or numbers stand there.
+ *   - What a call writes to does not overlap with anything else that the same call is lent.
+ *   - No other thread uses what a call writes to while it runs.
+ */
+
+#ifndef CARD_H
+#define CARD_H
+
+#include <stddef.h>
+#include <stdint.h>
+
+#ifdef __cplusplus
+extern "C" {
+#endif
+
+/* The numbers that an engineer sees. */
+enum card_answer {
+    CARD_DONE = 0,
+    CARD_ALGORITHM = 1,      /* algorithm not 5, 6, 7 */
+    CARD_BENCH_KEY = 2,      /* bench key not 24 bytes */
+    CARD_IV_SIZE = 3,        /* initial value not 10 bytes */
+    CARD_LENGTH = 4,         /* length 0, or skip + length above 8,288 */
+    CARD_BUFFER = 5,         /* buffer above 8,192 bytes */
+    CARD_SPAN = 6,           /* start + length above 8 times the buffer's bytes */
+    CARD_SLOT_NUMBER = 7,    /* slot number not 1..32 */
+    CARD_SLOT_EMPTY = 8,     /* slot empty */
+    CARD_TARGET_FILLED = 9,  /* target slot filled */
+    CARD_CODE = 10,          /* use or direction code unknown */
+    CARD_SIDE_OR_PLACE = 11, /* side above 1 or place above 79 */
+    CARD_DIRECTION = 12,     /* use doesn't include the direction */
+    CARD_IV_SIDE = 13,       /* the initial value's side bit is wrong */
+    CARD_USE_WIDER = 14,     /* asked use not within the present use */
+    CARD_RECORD_TEXT = 15,   /* record text bad; line 1..7 given */
+    CARD_TABLE = 16,         /* table not 32 records, or a bad slot in it */
+    CARD_RECORD_ROOM = 17,   /* record text longer than the buffer */
+    CARD_PDU_CODE = 18,      /* PDU kind, state or flag unknown, or PDU above 8,288 bits */
+    CARD_PDU_PARTS = 19      /* PDU parts don't fit */
+};
+
+enum card_size {
+    CARD_SLOTS = 32,
+    CARD_KEY_BYTES = 24,
+    CARD_IV_BYTES = 10,
+    CARD_BUFFER_BYTES = 8192,   /* the longest buffer */
+    CARD_KEYSTREAM_BITS = 8288, /* the most keystream of a call, its skip included */
+    CARD_RECORD_BYTES = 111     /* the longest record */
+};
+
+enum card_algorithm { CARD_TEA5 = 5, CARD_TEA6 = 6, CARD_TEA7 = 7 };
+
+/* What a key is for. 'Keep' is only for a move. */
+enum card_use { CARD_KEEP = 0, CARD_FOR_SENDING = 1, CARD_FOR_RECEIVING = 2, CARD_FOR_BOTH = 3 };
+
+enum card_direction { CARD_SEND = 1, CARD_RECEIVE = 2 };
+
+/* A slot. All bytes zero: empty. Filled: a version of 0..65535, an algorithm of 5..7, a use of 1..3, a side of 0..1, a
+   place of 0..79 and any key. Anything else is a bad slot, and one bad slot refuses every call on the table.
+   Bit 0 of a byte is its most significant bit. A send needs bit `place` of the initial value equal to `side`, a receive
+   needs the other value. */
+struct card_slot {
+    uint16_t version;
+    uint8_t algorithm;
+    uint8_t usage;
+    uint8_t side;
+    uint8_t place;
+    uint8_t key[CARD_KEY_BYTES];
+};
+
+#ifdef __cplusplus
+static_assert(sizeof(struct card_slot) == 30, "a slot is 30 bytes");
+static_assert(offsetof(struct card_slot, key) == 6, "its key starts at byte 6");
+#else
+_Static_assert(sizeof(struct card_slot) == 30, "a slot is 30 bytes");
+_Static_assert(offsetof(struct card_slot, key) == 6, "its key starts at byte 6");
+#endif
+
+/*
+ * The table: `slots` records from `table` on, numbered from 1. Where `slots` is not 32, or a slot is bad, a call on the
+ * table is refused with 16 before anything else is looked at. An empty table is 32 slots of zero bytes.
+ */
+
+/* Fills the empty slot `number`. The key is copied; it decides no refusal.
+   Refused: 16, 7, 1, 10, 11, 9. */
+uint8_t card_load(struct card_slot *table, size_t slots, uint64_t number, uint16_t version, uint64_t algorithm,
+                  uint64_t usage, uint64_t side, uint64_t place, const uint8_t key[CARD_KEY_BYTES]);
+
+/* Carries slot `from` to the empty slot `to`, and empties `from`. Asked CARD_KEEP keeps the use; any other use is the
+   use in `to`, and must lie within the present one. A slot moved to itself is refused with 9.
+   Refused: 16, 7 (either number), 8, 9, 10, 14. */
+uint8_t card_move(struct card_slot *table, size_t slots, uint64_t from, uint64_t to, uint64_t asked);
+
+/* Empties a filled slot: all its bytes become zero.
+   Refused: 16, 7, 8. */
+uint8_t card_clear(struct card_slot *table, size_t slots, uint64_t number);
+
+/* Gives a filled slot's number and fields, without the key.
+   Refused: 16, 7, 8. */
+uint8_t card_read(const struct card_slot *table, size_t slots, uint64_t number, uint64_t *there, uint16_t *version,
+                  uint8_t *algorithm, uint8_t *usage, uint8_t *side, uint8_t *place);
+
+/* Ciphers: bit start + i of the buffer becomes itself xor keystream bit skip + i, for each i below `length`, and every
+   other bit stays. The same call again brings the buffer back. `blocks` becomes the number of keystream blocks, of 256
+   bits, in which a used bit lies. start, length and skip may be any numbers: their sums never wrap.
+   Refused: 16, 10, 7, 8, 12, 3, 13, 5, 4, 6. */
+uint8_t card_traffic(const struct card_slot *table, size_t slots, uint64_t direction, uint64_t number,
+                     const uint8_t *iv, size_t iv_bytes, uint8_t *buffer, size_t buffer_bytes, size_t start,
+                     size_t length, size_t skip, size_t *blocks);
+
+/*
+ * Calls without a table.
+ */
+
+/* Writes keystream bits 0 to length - 1 from bit 0 of the buffer on, and keeps the buffer's later bits: to compare the
+   card with another.
+   Refused: 1, 2, 3, 5, 4, 6. */
+uint8_t card_bench(uint64_t algorithm, const uint8_t *key, size_t key_bytes, const uint8_t *iv, size_t iv_bytes,
+                   uint8_t *buffer, size_t buffer_bytes, size_t length, size_t *blocks);
+
+/* Reads one record, seven lines of text, from the front of a text. `shown` becomes number, version, algorithm, use,
+   side and place, `used` the bytes that the record took; what follows it is not judged. On refusal 15, `line` becomes
+   the first line that is wrong or cut short, 1..7, and all else zero.
+   Refused: 15. */
+uint8_t card_record_read(const uint8_t *text, size_t text_bytes, uint64_t shown[6], uint8_t key[CARD_KEY_BYTES],
+                         size_t *used, size_t *line);
+
+/* Writes a record to the front of a buffer, keeps the bytes after it, and leaves its length, 105 to CARD_RECORD_BYTES.
+   Refused: 7, 1, 10, 11, 17. */
+uint8_t card_record_write(uint64_t number, uint16_t version, uint64_t algorithm, uint64_t usage, uint64_t side,
+                          uint64_t place, const uint8_t key[CARD_KEY_BYTES], uint8_t *buffer, size_t buffer_bytes,
+                          size_t *length);
+
+/* Which bits of a direct mode PDU are ciphered. kind: 1 DMAC-DATA, 2 DMAC-SYNC on SCH/H, 3 DMAC-SYNC on SCH/S; state:
+   0..3; flag: the fragmentation flag, 0 or 1; the PDU's length, and where its address and its DM-SDU start, in bits
+   from 0. `pieces` becomes start, length and skip of the first piece and of the second; zeros where there is none.
+   Refused: 18, 19. */
+uint8_t card_plan(uint64_t kind, uint64_t state, uint64_t flag, size_t length, size_t address, size_t sdu,
+                  size_t pieces[6]);
+
+#ifdef __cplusplus
+}
+#endif
+
+#endif
