@@ -1,14 +1,25 @@
 /* Speed of the bench call beside its peers, and of traffic beside the bench call.
-   bench inputs            prints inputs for the second program
-   bench measure EXPECTED  holds all calls to its output, then measures them
+   bench inputs                 prints inputs for the second program
+   bench measure EXPECTED PLOT  holds all calls to its output, then measures them, and writes a picture
    Exit 0: done; 1: a fault; 2: measured, and a bar is missed. */
 
 #include <stdio.h>
 #include <string.h>
 
 #include "agree.h"
+#include "curve.h"
 #include "measure.h"
+#include "plot.h"
 #include "subjects.h"
+
+static int measure_curves(const char *plot)
+{
+    static struct curve curves[CURVES];
+    int count = curve_measure(curves);
+
+    curve_print(curves, count);
+    return plot_write(plot, curves, count);
+}
 
 int main(int count, char **words)
 {
@@ -16,12 +27,12 @@ int main(int count, char **words)
         agree_print_inputs();
         return 0;
     }
-    if (count == 3 && strcmp(words[1], "measure") == 0) {
+    if (count == 4 && strcmp(words[1], "measure") == 0) {
         subjects_prepare();
-        if (agree_check(words[2]) != 0)
+        if (agree_check(words[2]) != 0 || measure_curves(words[3]) != 0)
             return 1;
         return measure_bench() + measure_traffic() > 0 ? 2 : 0;
     }
-    fprintf(stderr, "usage: bench inputs | bench measure EXPECTED\n");
+    fprintf(stderr, "usage: bench inputs | bench measure EXPECTED PLOT\n");
     return 1;
 }

@@ -2,17 +2,18 @@
 
 #include <string.h>
 
-enum { SEND = 1, BOTH = 3, LAST_PLACE = 79 };
+enum { LAST_PLACE = 79 };
 
 /* Every slot has the key, and the side that lets it send with the initial value. The place is in its last byte: it may
    change in all others. */
-static void fill_table(struct slot table[SLOTS], const struct input *input)
+static void fill_table(struct card_slot table[CARD_SLOTS], const struct input *input)
 {
     uint8_t side = input->iv[LAST_PLACE / 8] & 1;
 
-    memset(table, 0, SLOTS * sizeof *table);
-    for (uint64_t number = 1; number <= SLOTS; number++)
-        card_load(table, SLOTS, number, (uint16_t)number, input->algorithm, BOTH, side, LAST_PLACE, input->key);
+    memset(table, 0, CARD_SLOTS * sizeof *table);
+    for (uint64_t number = 1; number <= CARD_SLOTS; number++)
+        card_load(table, CARD_SLOTS, number, (uint16_t)number, input->algorithm, CARD_FOR_BOTH, side,
+                  LAST_PLACE, input->key);
 }
 
 void traffic_taken(struct traffic *traffic, uint64_t *generator, uint64_t algorithm, size_t bits, int shift)
@@ -30,8 +31,8 @@ uint8_t traffic_call(struct traffic *traffic, size_t *blocks)
 {
     struct input *input = &traffic->input;
 
-    return card_traffic(traffic->table, SLOTS, SEND, SLOTS, input->iv, input->iv_len, input->buf, input->buf_len,
-                        traffic->start, input->bits, traffic->skip, blocks);
+    return card_traffic(traffic->table, CARD_SLOTS, CARD_SEND, CARD_SLOTS, input->iv, input->iv_len, input->buf,
+                        input->buf_len, traffic->start, input->bits, traffic->skip, blocks);
 }
 
 uint8_t traffic_bench(struct traffic *traffic, size_t *blocks)

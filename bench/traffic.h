@@ -8,7 +8,7 @@
 enum { SHIFTS = 64 };
 
 struct traffic {
-    struct slot table[SLOTS];
+    struct card_slot table[CARD_SLOTS];
     struct input input;
     size_t start, skip;
 };
