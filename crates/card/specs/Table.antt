@@ -50,11 +50,6 @@ shownAs refusal number version algorithm usage side place = record {
   fields = record { version = version; algorithm = algorithm; usage = usage; side = side; place = place };
 }
 
--- a load's fields, as its caller gives them
-abbrev pub askedFor : ℕ → ℕ → ℕ → ℕ → ℕ → Asked
-askedFor version algorithm usage side place =
-    record { version = version; algorithm = algorithm; usage = usage; side = side; place = place }
-
 -- How the code does it: a list that is no table is read as a table of bad slots, which every call refuses with 16, and is not written to.
 
 abbrev pub badSlot : Slot

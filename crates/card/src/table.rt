@@ -1,7 +1,8 @@
 // The slot calls on a table that the caller lends: 32 slot records behind a pointer.
 ghost use mathlib.Core.Path.{_≡_};
 ghost use Rattle.slots.specs.Calls.{loaded, shown};
-ghost use Rattle.card.specs.Table.{askedFor, loadedIn, movedIn, clearedIn, shownAs, shownIn, trafficRefusalIn, traffickedIn, trafficBlocksIn};
+ghost use Rattle.card.specs.Faces.{asking};
+ghost use Rattle.card.specs.Table.{loadedIn, movedIn, clearedIn, shownAs, shownIn, trafficRefusalIn, traffickedIn, trafficBlocksIn};
 ghost use Rattle.card.specs.Traffic.{trafficRefusal, trafficked, trafficBlocks};
 use crate::lent_table::put_changed;
 use crate::lent_table::table_of;
@@ -20,7 +21,7 @@ fn load_from(
     place: u64,
     key: &[u8; 24],
 ) -> Changed
-    ensures { λ r. ⌜ r ≡ loaded table number (askedFor version algorithm usage side place) (now (key .entry)) ⌝ }
+    ensures { λ r. ⌜ r ≡ loaded table number (asking version algorithm usage side place) (now (key .entry)) ⌝ }
 {
     let asked = Asked {
         version,
@@ -45,7 +46,7 @@ pub extern "C" fn card_load(
     place: u64,
     key: &[u8; 24],
 ) -> u8
-    ensures { λ r. ⌜ (r ≡ loadedIn (now (t .entry)) number (askedFor version algorithm usage side place) (now (key .entry)) .refusal) × (now (t .exit) ≡ loadedIn (now (t .entry)) number (askedFor version algorithm usage side place) (now (key .entry)) .table) ⌝ }
+    ensures { λ r. ⌜ (r ≡ loadedIn (now (t .entry)) number (asking version algorithm usage side place) (now (key .entry)) .refusal) × (now (t .exit) ≡ loadedIn (now (t .entry)) number (asking version algorithm usage side place) (now (key .entry)) .table) ⌝ }
 {
     let c = load_from(
         table_of(t),

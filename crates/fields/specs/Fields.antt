@@ -38,3 +38,7 @@ rightsRefusal a =
 -- the same numbers, as a slot holds them
 abbrev pub storedOf : Asked → Fields
 storedOf a = record { version = a .version; algorithm = a .algorithm; usage = a .usage; side = a .side; place = a .place }
+
+-- the same numbers, as a caller gives them
+abbrev pub askedOf : Fields → Asked
+askedOf f = record { version = f .version; algorithm = f .algorithm; usage = f .usage; side = f .side; place = f .place }

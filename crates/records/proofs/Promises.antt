@@ -12,7 +12,7 @@ use lib.ListN.{length, getD, take, drop, take-append-drop}
 use lib.Seq.{take-at, take-take, take-suc, drop-cons}
 use Rattle.laws.proofs.Cases.{lt-or-le}
 use Rattle.refusals.specs.Numbers.{done, recordTextBad}
-use Rattle.fields.specs.Fields.{storedOf}
+use Rattle.fields.specs.Fields.{storedOf, askedOf}
 use Rattle.fields.specs.declared.Asked.{Asked}
 use Rattle.fields.specs.declared.Fields.{Fields}
 use Rattle.records.specs.Text.{recordText, Good}
@@ -22,7 +22,7 @@ use Rattle.records.proofs.Forms.{Spells, reads, spelt, Stop, stops, sto
 use Rattle.records.proofs.Records.{record-means}
 use Rattle.records.proofs.Lines.{six-ends}
 use Rattle.records.proofs.Lengths.{right}
-use Rattle.records.proofs.Refusals.{askedOf, accepted as writing-accepts, nothing-refused, put-whole}
+use Rattle.records.proofs.Refusals.{accepted as writing-accepts, nothing-refused, put-whole}
 
 -- READING
 

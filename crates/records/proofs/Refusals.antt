@@ -11,7 +11,7 @@ use lib.Seq.{sets-eq}
 use borrow.Author.Tests.{le-ltb, ltb-false, eqb-true, eqb-false, eq-eqb, ne-eqb, not-true, not-false}
 use Rattle.laws.specs.Choice.{pick}
 use Rattle.refusals.specs.Numbers.{done, slotNumberBad, algorithmUnknown, recordTooLong}
-use Rattle.fields.specs.Fields.{isSlotNumber, isAlgorithm, rightsRefusal, storedOf}
+use Rattle.fields.specs.Fields.{isSlotNumber, isAlgorithm, rightsRefusal, storedOf, askedOf}
 use Rattle.fields.specs.declared.Asked.{Asked}
 use Rattle.fields.specs.declared.Fields.{Fields}
 use Rattle.records.specs.Text.{recordText, Good}
@@ -22,10 +22,6 @@ use Rattle.records.specs.Record.{writeRefusal, recordWritten, bufferWrit
 passed : (t : Bool) (n later : ℕ) → (t ≡ true → n ≡ done → ⊥) → pick t n later ≡ done → (t ≡ false) × (later ≡ done)
 passed true n later h e = absurd (h refl e)
 passed false n later h e = (refl, e)
-
--- the fields as a caller gives them
-abbrev pub askedOf : Fields → Asked
-askedOf f = record { version = f .version; algorithm = f .algorithm; usage = f .usage; side = f .side; place = f .place }
 
 module _ (number : ℕ) (asked : Asked) (key b : List ℕ) where
   pub record Accepted : Type 0 where

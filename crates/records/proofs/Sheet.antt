@@ -13,7 +13,8 @@ use Rattle.fields.specs.declared.Fields.{Fields}
 use Rattle.records.specs.Text.{ascii, digits, digitsWithin, useWord, hexDigit, hexText, recordText, Good}
 use Rattle.records.specs.Record.{accepted, recordRead, recordWritten, bufferWritten}
 use Rattle.records.proofs.Promises.{good-is-read}
-use Rattle.records.proofs.Refusals.{askedOf, nothing-refused, put-whole}
+use Rattle.fields.specs.Fields.{askedOf}
+use Rattle.records.proofs.Refusals.{nothing-refused, put-whole}
 
 abbrev pub sheet : List ℕ
 sheet =

@@ -14,11 +14,11 @@ use borrow.Author.Tests.{eq-eqb, ne-eqb}
 use Rattle.laws.specs.Choice.{pick}
 use Rattle.laws.proofs.Cases.{lt-or-le}
 use Rattle.refusals.specs.Numbers.{done}
-use Rattle.fields.specs.Fields.{allInRange}
+use Rattle.fields.specs.Fields.{allInRange, askedOf}
 use Rattle.fields.specs.declared.Fields.{Fields}
 use Rattle.fields.proofs.Ranges.{algorithm-high, side-high, place-high}
 use Rattle.slots.specs.declared.Slot.{Slot}
-use Rattle.slots.specs.Slots.{askedOf, nil, isFilled}
+use Rattle.slots.specs.Slots.{nil, isFilled}
 use Rattle.records.specs.Text.{ascii, lf, digits, useWord, lineText}
 use Rattle.records.proofs.Puts.{length-one, length-ten}
 use Rattle.records.proofs.Lengths.{use-length}

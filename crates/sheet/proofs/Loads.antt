@@ -12,7 +12,7 @@ use Rattle.refusals.specs.Numbers.{done}
 use Rattle.fields.specs.declared.Asked.{Asked}
 use Rattle.slots.specs.declared.Slot.{Slot}
 use Rattle.slots.specs.declared.Changed.{Changed}
-use Rattle.slots.specs.Slots.{askedOf}
+use Rattle.fields.specs.Fields.{askedOf}
 use Rattle.slots.specs.Calls.{loaded}
 use Rattle.records.specs.declared.RecordRead.{RecordRead}
 use Rattle.records.specs.Text.{recordText}

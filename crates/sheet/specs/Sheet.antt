@@ -9,7 +9,8 @@ use Rattle.laws.specs.Choice.{pick}
 use Rattle.refusals.specs.Numbers.{done}
 use Rattle.fields.specs.declared.Fields.{Fields}
 use Rattle.slots.specs.declared.Slot.{Slot}
-use Rattle.slots.specs.Slots.{askedOf, isFilled, emptyTable}
+use Rattle.fields.specs.Fields.{askedOf}
+use Rattle.slots.specs.Slots.{isFilled, emptyTable}
 use Rattle.slots.specs.Calls.{loaded}
 use Rattle.records.specs.Text.{ascii, digits, useWord, lineText}
 use Rattle.records.specs.Record.{recordRead, atFront}

@@ -11,10 +11,10 @@ use Rattle.laws.specs.Choice.{pick}
 use Rattle.refusals.specs.Numbers.{done}
 use Rattle.fields.specs.declared.Asked.{Asked}
 use Rattle.fields.specs.declared.Fields.{Fields}
-use Rattle.fields.specs.Fields.{allInRange}
+use Rattle.fields.specs.Fields.{allInRange, askedOf}
 use Rattle.slots.specs.declared.Slot.{Slot}
 use Rattle.slots.specs.declared.Changed.{Changed}
-use Rattle.slots.specs.Slots.{askedOf, isEmpty, isFilled, isBad, hasBad, nil, empty, slotAt, withSlot}
+use Rattle.slots.specs.Slots.{isEmpty, isFilled, isBad, hasBad, nil, empty, slotAt, withSlot}
 use Rattle.slots.specs.Calls.{loadRefusal, moveRefusal, slotRefusal, clearRefusal, answered, loaded, movedFields, movedSlot, moved, cleared, shown}
 use Rattle.slots.proofs.Tables.{filled-not-empty}
 use Rattle.slots.proofs.Passed.{load-passed}

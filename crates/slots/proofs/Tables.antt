@@ -12,10 +12,10 @@ use lib.Seq.{drop-cons}
 use Rattle.laws.proofs.Cases.{and-left, and-right, neither}
 use Rattle.refusals.specs.Numbers.{done, codeUnknown, sideOrPlaceBad, refuse}
 use Rattle.fields.specs.declared.Asked.{Asked}
-use Rattle.fields.specs.Fields.{isAlgorithm, isUse, isSide, isPlace, allInRange, rightsRefusal}
+use Rattle.fields.specs.Fields.{isAlgorithm, isUse, isSide, isPlace, allInRange, rightsRefusal, askedOf}
 use Rattle.fields.proofs.Ranges.{between-low}
 use Rattle.slots.specs.declared.Slot.{Slot}
-use Rattle.slots.specs.Slots.{askedOf, nil, allZero, isEmpty, isFilled, isBad, hasBad}
+use Rattle.slots.specs.Slots.{nil, allZero, isEmpty, isFilled, isBad, hasBad}
 
 -- the fields are in their ranges where the algorithm is and no right is refused
 pub in-range : (a : Asked) → allInRange a ≡ isAlgorithm (a .algorithm) && eqb (rightsRefusal a) done

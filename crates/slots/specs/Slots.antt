@@ -5,17 +5,12 @@ use mathlib.Core.List.{List, [], _∷_}
 use Prim.Native.Nat.{ℕ, _-_}
 use lib.Dec.{eqb}
 use lib.ListN.{getD, set, replicate}
-use Rattle.fields.specs.declared.Asked.{Asked}
 use Rattle.fields.specs.declared.Fields.{Fields}
-use Rattle.fields.specs.Fields.{allInRange}
+use Rattle.fields.specs.Fields.{allInRange, askedOf}
 use Rattle.slots.specs.declared.Slot.{Slot}
 
 abbrev pub noFields : Fields
 noFields = record { version = 0; algorithm = 0; usage = 0; side = 0; place = 0 }
-
--- the same numbers, as a caller gives them
-abbrev pub askedOf : Fields → Asked
-askedOf f = record { version = f .version; algorithm = f .algorithm; usage = f .usage; side = f .side; place = f .place }
 
 -- zero in every field
 abbrev pub isNoFields : Fields → Bool

@@ -2,8 +2,8 @@
 ghost use mathlib.Core.Path.{_≡_};
 ghost use mathlib.Core.Bool.{true};
 ghost use Prim.Native.Nat.{_-_, _<_};
-ghost use Rattle.fields.specs.Fields.{isSlotNumber};
-ghost use Rattle.slots.specs.Slots.{noFields, askedOf, isNoFields, allZero, isEmpty, isFilled, isBad, hasBad, empty, emptyTable, slotAt, withSlot};
+ghost use Rattle.fields.specs.Fields.{isSlotNumber, askedOf};
+ghost use Rattle.slots.specs.Slots.{noFields, isNoFields, allZero, isEmpty, isFilled, isBad, hasBad, empty, emptyTable, slotAt, withSlot};
 ghost use Rattle.slots.specs.Rights.{isDirection, includes, within, movedUse, staysWithin};
 ghost use Rattle.slots.specs.Calls.{loadRefusal, moveRefusal, slotRefusal, clearRefusal, loaded, movedSlot, moved, cleared, shown};
 use fields::Asked;

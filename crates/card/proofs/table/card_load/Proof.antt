@@ -5,7 +5,8 @@ use denote.RattleType.{Denots, Valss}
 use Rattle.fields.specs.declared.Asked.{Asked}
 use Rattle.slots.specs.declared.Slot.{Slot}
 use Rattle.slots.specs.Calls.{loaded}
-use Rattle.card.specs.Table.{askedFor, tableIn, loadedIn}
+use Rattle.card.specs.Faces.{asking}
+use Rattle.card.specs.Table.{tableIn, loadedIn}
 use Rattle.card.proofs.CallRules.{Of, calls-fn}
 use Rattle.card.proofs.SlotLaws.{R, arr-typed, res-typed}
 use Rattle.card.proofs.TableCalls.{TableOf, PutChanged, lent, slice, lends-table, puts-table, with-table}
@@ -126,7 +127,7 @@ module _ {M : Type 1} (𝓤 : URA M) (H : Heap 𝓤) (A : Atoms 𝓤) (W : Given
       (walked 𝓤 H A f.ended stayed (f.clauses 𝓤 H A mem run) Run (λ κs. (slice-vals, (uint-vals w64, (uint-vals w16, (uint-vals w64, (uint-vals w64, (uint-vals w64, (uint-vals w64, (ptr-vals, tt)))))))))
       (λ κs. (mut-slice-tells (named 0) (κs .0) R, (uint-tells w64, (uint-tells w16, (uint-tells w64, (uint-tells w64, (uint-tells w64, (uint-tells w64, (shr-tells (named 1) (κs .1 .0) Key, tt)))))))))
       (λ κs qs bounds a g are. via 𝓤 _ (fst∗ 𝓤 _ (emp 𝓤))
-      (walk 𝓤 H A W mem run (κs .0) (κs .1 .0) (qs .0) (qs .1 .0) (a .0 .ptr .0) (a .0 .ptr .1) (a .0 .name) (a .0 .now) (a .1 .0) (askedFor (a .1 .1 .0) (a .1 .1 .1 .0) (a .1 .1 .1 .1 .0) (a .1 .1 .1 .1 .1 .0) (a .1 .1 .1 .1 .1 .1 .0))
+      (walk 𝓤 H A W mem run (κs .0) (κs .1 .0) (qs .0) (qs .1 .0) (a .0 .ptr .0) (a .0 .ptr .1) (a .0 .name) (a .0 .now) (a .1 .0) (asking (a .1 .1 .0) (a .1 .1 .1 .0) (a .1 .1 .1 .1 .0) (a .1 .1 .1 .1 .1 .0) (a .1 .1 .1 .1 .1 .1 .0))
       (a .1 .1 .1 .1 .1 .1 .1 .0 .ptr .0) (a .1 .1 .1 .1 .1 .1 .1 .0 .ptr .1) (a .1 .1 .1 .1 .1 .1 .1 .0 .name) (a .1 .1 .1 .1 .1 .1 .1 .0 .now)
       (are .0 .0 .1) (are .1 .0 .1) (are .1 .1 .0 .1) (are .1 .1 .1 .0 .1) (are .1 .1 .1 .1 .0 .1) (are .1 .1 .1 .1 .1 .0 .1) (are .1 .1 .1 .1 .1 .1 .0 .1) (𝓣 .C) (𝓣 .Λ) (fmOf 𝓤 H (W .laws) 𝓣) table-met core-met put-met)))
 
