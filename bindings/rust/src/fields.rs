@@ -1,0 +1,67 @@
+//! What may be shown of a key, and what a load is asked for.
+
+use crate::{Algorithm, Refusal, Use};
+
+/// What may be shown of a filled slot: everything but its key.
+#[derive(Clone, Copy, Debug, PartialEq, Eq, Hash)]
+pub struct Fields {
+    /// The key's version.
+    pub version: u16,
+    /// The key's algorithm.
+    pub algorithm: Algorithm,
+    /// What the key is for.
+    pub usage: Use,
+    /// 0 or 1: what bit `place` of the initial value is in a send.
+    pub side: u8,
+    /// 0 to 79: the bit of the initial value that marks the direction.
+    pub place: u8,
+}
+
+/// The same as numbers that an engineer typed, good or not. The card tests them.
+///
+/// ```
+/// use card::{Asked, Refusal, Table};
+///
+/// let asked = Asked { version: 17, algorithm: 6, usage: 1, side: 0, place: 80 };
+/// assert_eq!(Table::new().load(3, asked, &[7; 24]), Err(Refusal::SideOrPlace));
+/// ```
+#[derive(Clone, Copy, Debug, PartialEq, Eq, Hash)]
+pub struct Asked {
+    /// The key's version.
+    pub version: u16,
+    /// 5, 6 or 7; any other number is refused with 1.
+    pub algorithm: u64,
+    /// 1 sending, 2 receiving, 3 both; any other number is refused with 10.
+    pub usage: u64,
+    /// 0 or 1; any other number is refused with 11.
+    pub side: u64,
+    /// 0 to 79; any other number is refused with 11.
+    pub place: u64,
+}
+
+impl From<Fields> for Asked {
+    fn from(fields: Fields) -> Asked {
+        Asked {
+            version: fields.version,
+            algorithm: fields.algorithm.into(),
+            usage: fields.usage.into(),
+            side: fields.side.into(),
+            place: fields.place.into(),
+        }
+    }
+}
+
+impl Fields {
+    /// Version, algorithm, use, side and place as a call that was done reports them. Its numbers are
+    /// good ones, so this gives no refusal.
+    pub(crate) fn reported(numbers: [u64; 5]) -> Result<Fields, Refusal> {
+        let [version, algorithm, usage, side, place] = numbers;
+        Ok(Fields {
+            version: version as u16,
+            algorithm: algorithm.try_into()?,
+            usage: usage.try_into()?,
+            side: side as u8,
+            place: place as u8,
+        })
+    }
+}

@@ -1,0 +1,66 @@
+//! Keys as text.
+
+use crate::{ffi, Asked, Fields, Key, Refusal, KEY_BYTES};
+
+/// A key record as it was read.
+#[derive(Clone, Debug)]
+pub struct Record {
+    /// The slot that it is for.
+    pub number: u64,
+    /// What may be shown of it.
+    pub fields: Fields,
+    /// Its key.
+    pub key: Key,
+    /// The bytes that its text took.
+    pub length: usize,
+}
+
+/// Reads one record, seven lines, from the front of a text. What follows it is not judged.
+///
+/// Refused: 15, with the first line that is wrong or cut short.
+///
+/// A sheet of records is loaded so:
+///
+/// ```
+/// use card::{record_read, Refusal, Table};
+///
+/// fn loaded(mut sheet: &[u8]) -> Result<Table, Refusal> {
+///     let mut table = Table::new();
+///     while !sheet.is_empty() {
+///         let record = record_read(sheet)?;
+///         table.load(record.number, record.fields, &record.key)?;
+///         sheet = &sheet[record.length..];
+///     }
+///     Ok(table)
+/// }
+///
+/// assert!(loaded(include_bytes!("../../../samples/keys.txt")).is_ok());
+/// let refusal = loaded(include_bytes!("../../../samples/damaged.txt")).unwrap_err();
+/// assert_eq!(refusal, Refusal::RecordText { line: 6 });
+/// ```
+pub fn record_read(text: &[u8]) -> Result<Record, Refusal> {
+    ffi::record_read(text)
+}
+
+/// Writes a record to the front of a buffer, keeps the bytes after it and gives its length, 105 to
+/// [`RECORD_BYTES`](crate::RECORD_BYTES).
+///
+/// Refused: 7, 1, 10, 11, 17.
+///
+/// ```
+/// use card::{record_write, Algorithm, Fields, Use, RECORD_BYTES};
+///
+/// let fields = Fields { version: 9, algorithm: Algorithm::Tea5, usage: Use::Both, side: 1, place: 28 };
+/// let mut buffer = [0; RECORD_BYTES];
+/// let length = record_write(4, fields, &[0xab; 24], &mut buffer)?;
+/// assert!(buffer[..length].starts_with(b"number=4\nversion=9\nalg=TEA5\nuse=BOTH\n"));
+/// # Ok::<(), card::Refusal>(())
+/// ```
+pub fn record_write(
+    number: u64,
+    fields: impl Into<Asked>,
+    key: &[u8; KEY_BYTES],
+    buffer: &mut [u8],
+) -> Result<usize, Refusal> {
+    ffi::record_write(number, &fields.into(), key, buffer)
+}

@@ -1,0 +1,235 @@
+//! The numbers that an engineer sees.
+
+use std::error::Error;
+use std::fmt;
+
+/// Why a call did nothing. It prints as its number and what an engineer should look at.
+///
+/// ```
+/// let refusal = card::Table::new().read(33).unwrap_err();
+/// assert_eq!(refusal.number(), 7);
+/// assert_eq!(
+///     refusal.to_string(),
+///     "refused with 7: the slot number isn't 1 to 32; look at the number, which counts from 1"
+/// );
+/// ```
+#[derive(Clone, Copy, Debug, PartialEq, Eq, Hash)]
+#[non_exhaustive]
+pub enum Refusal {
+    /// 1: algorithm not 5, 6, 7.
+    Algorithm,
+    /// 2: bench key not 24 bytes.
+    BenchKey,
+    /// 3: initial value not 10 bytes.
+    IvSize,
+    /// 4: length 0, or skip + length above 8,288.
+    Length,
+    /// 5: buffer above 8,192 bytes.
+    Buffer,
+    /// 6: start + length above 8 times the buffer's bytes.
+    Span,
+    /// 7: slot number not 1..32.
+    SlotNumber,
+    /// 8: slot empty.
+    SlotEmpty,
+    /// 9: target slot filled.
+    TargetFilled,
+    /// 10: use or direction code unknown.
+    Code,
+    /// 11: side above 1 or place above 79.
+    SideOrPlace,
+    /// 12: use doesn't include the direction.
+    Direction,
+    /// 13: the initial value's side bit is wrong.
+    IvSide,
+    /// 14: asked use not within the present use.
+    UseWider,
+    /// 15: record text bad.
+    RecordText {
+        /// The first line that is wrong or cut short, 1 to 7.
+        line: u8,
+    },
+    /// 16: table not 32 records, or a bad slot in it.
+    Table,
+    /// 17: record text longer than the buffer.
+    RecordRoom,
+    /// 18: PDU kind, state or flag unknown, or PDU above 8,288 bits.
+    PduCode,
+    /// 19: PDU parts don't fit.
+    PduParts,
+    /// A number that isn't listed here: the library is newer than these bindings.
+    Unlisted(u8),
+}
+
+/// The refusals from 1 on.
+const LISTED: [Refusal; 19] = [
+    Refusal::Algorithm,
+    Refusal::BenchKey,
+    Refusal::IvSize,
+    Refusal::Length,
+    Refusal::Buffer,
+    Refusal::Span,
+    Refusal::SlotNumber,
+    Refusal::SlotEmpty,
+    Refusal::TargetFilled,
+    Refusal::Code,
+    Refusal::SideOrPlace,
+    Refusal::Direction,
+    Refusal::IvSide,
+    Refusal::UseWider,
+    Refusal::RecordText { line: 0 },
+    Refusal::Table,
+    Refusal::RecordRoom,
+    Refusal::PduCode,
+    Refusal::PduParts,
+];
+
+/// What the lines of a record should be, from line 1 on.
+const LINES: [&str; 7] = [
+    "number= and 1 to 32",
+    "version= and 0 to 65535",
+    "alg= and TEA5, TEA6 or TEA7",
+    "use= and SEND, RECV or BOTH",
+    "side= and 0 or 1",
+    "place= and 0 to 79",
+    "key= and 48 lower-case hex digits",
+];
+
+impl Refusal {
+    /// The number that the card answered, from 1 on.
+    pub const fn number(self) -> u8 {
+        match self {
+            Refusal::Algorithm => 1,
+            Refusal::BenchKey => 2,
+            Refusal::IvSize => 3,
+            Refusal::Length => 4,
+            Refusal::Buffer => 5,
+            Refusal::Span => 6,
+            Refusal::SlotNumber => 7,
+            Refusal::SlotEmpty => 8,
+            Refusal::TargetFilled => 9,
+            Refusal::Code => 10,
+            Refusal::SideOrPlace => 11,
+            Refusal::Direction => 12,
+            Refusal::IvSide => 13,
+            Refusal::UseWider => 14,
+            Refusal::RecordText { .. } => 15,
+            Refusal::Table => 16,
+            Refusal::RecordRoom => 17,
+            Refusal::PduCode => 18,
+            Refusal::PduParts => 19,
+            Refusal::Unlisted(number) => number,
+        }
+    }
+
+    /// The refusal that a call answered; nothing where it was done.
+    pub(crate) fn answered(answer: u8) -> Option<Refusal> {
+        let place = usize::from(answer.checked_sub(1)?);
+        let listed = LISTED.get(place).copied();
+        Some(listed.unwrap_or(Refusal::Unlisted(answer)))
+    }
+}
+
+impl fmt::Display for Refusal {
+    fn fmt(&self, f: &mut fmt::Formatter) -> fmt::Result {
+        write!(f, "refused with {}: ", self.number())?;
+        let sentence = match self {
+            Refusal::Algorithm => {
+                "the algorithm isn't 5, 6 or 7; look at the algorithm that was asked for"
+            }
+            Refusal::BenchKey => "the bench key isn't 24 bytes; look at how long the key is",
+            Refusal::IvSize => "the initial value isn't 10 bytes; look at how long it is",
+            Refusal::Length => {
+                "the length is 0, or skip and length together are above 8,288 bits; \
+                 look at the span's length and skip"
+            }
+            Refusal::Buffer => {
+                "the buffer is longer than 8,192 bytes; \
+                 look at whether more than one PDU is handed over"
+            }
+            Refusal::Span => {
+                "the span ends after the buffer's last bit; \
+                 look at its start and length, which count bits and not bytes"
+            }
+            Refusal::SlotNumber => {
+                "the slot number isn't 1 to 32; look at the number, which counts from 1"
+            }
+            Refusal::SlotEmpty => {
+                "the slot is empty; look at whether its key was loaded, or moved to another slot"
+            }
+            Refusal::TargetFilled => {
+                "the target slot is filled; \
+                 look at what it holds, and clear it if that key is done with"
+            }
+            Refusal::Code => {
+                "the use or direction code is unknown; \
+                 look at the code: a use is 1, 2 or 3, or 0 on a move, and a direction is 1 or 2"
+            }
+            Refusal::SideOrPlace => {
+                "the side is above 1 or the place above 79; look at these two numbers"
+            }
+            Refusal::Direction => {
+                "the key's use doesn't include this direction; \
+                 look at the use letter of the slot's record"
+            }
+            Refusal::IvSide => {
+                "the initial value's side bit is wrong for this direction; \
+                 look at the slot's side and place, and at which end made the initial value"
+            }
+            Refusal::UseWider => {
+                "the asked use isn't within the key's present use; \
+                 look at the slot's use, which a move can narrow and never widen"
+            }
+            Refusal::RecordText { line } => return write_line_sentence(f, *line),
+            Refusal::Table => {
+                "the table isn't 32 slots, or one of them is bad; \
+                 look for a field out of range, or an empty slot with a byte that isn't zero"
+            }
+            Refusal::RecordRoom => {
+                "the record is longer than the buffer; \
+                 look at the buffer's length: 111 bytes hold any record"
+            }
+            Refusal::PduCode => {
+                "the PDU's kind, state or flag is unknown, or the PDU is above 8,288 bits; \
+                 look at these four numbers"
+            }
+            Refusal::PduParts => {
+                "the PDU's parts don't fit; \
+                 look at its length, and at where its address and its DM-SDU start"
+            }
+            Refusal::Unlisted(_) => {
+                "this number is newer than the bindings; look it up in the library's card.h"
+            }
+        };
+        f.write_str(sentence)
+    }
+}
+
+fn write_line_sentence(f: &mut fmt::Formatter, line: u8) -> fmt::Result {
+    let place = usize::from(line).checked_sub(1);
+    let good = place
+        .and_then(|place| LINES.get(place))
+        .unwrap_or(&"1 to 7");
+    write!(
+        f,
+        "line {line} of the record is wrong or cut short; look at that line: it should be {good}"
+    )
+}
+
+impl Error for Refusal {}
+
+#[cfg(test)]
+mod tests {
+    use super::*;
+
+    #[test]
+    fn every_answer_keeps_its_number() {
+        assert_eq!(Refusal::answered(0), None);
+        for answer in 1..=u8::MAX {
+            let refusal = Refusal::answered(answer).unwrap();
+            assert_eq!(refusal.number(), answer);
+            let listed = !matches!(refusal, Refusal::Unlisted(_));
+            assert_eq!(listed, answer <= 19);
+        }
+    }
+}

@@ -1,0 +1,74 @@
+//! One key, and the table that holds it, for the card and for the second program.
+#![allow(dead_code)]
+
+use card::{Algorithm, Asked, Fields, Span, Table, Use, SLOTS};
+use second::card::Span as SecondSpan;
+use second::generator::Generator;
+use second::slots::{empty_table, load, Fields as SecondFields, Slot as SecondSlot};
+
+pub const ALGORITHMS: [Algorithm; 3] = [Algorithm::Tea5, Algorithm::Tea6, Algorithm::Tea7];
+
+pub const KEY: [u8; 24] = *b"\x3f\x7a\x0c\x91\xd2\xe4\x5b\x68\xa1\xf0\x93\x7c\x5b\xe2\xd4\x8e\x06\xb9\xa3\x7d\xc5\x1f\x8e\x24";
+
+/// Bit 28 is 0: a send for side 0.
+pub const IV: [u8; 10] = [0x5a, 0x01, 0x92, 0x37, 0xe0, 0x44, 0x00, 0xff, 0x6b, 0x1d];
+
+pub const WHOLE_BYTE: Span = Span {
+    start: 0,
+    length: 8,
+    skip: 0,
+};
+
+pub fn fields(algorithm: Algorithm, usage: Use) -> Fields {
+    Fields {
+        version: 17,
+        algorithm,
+        usage,
+        side: 0,
+        place: 28,
+    }
+}
+
+/// A table with `KEY` in slot 3.
+pub fn table(algorithm: Algorithm, usage: Use) -> Table {
+    let mut table = Table::new();
+    table.load(3, fields(algorithm, usage), &KEY).unwrap();
+    table
+}
+
+/// The same table of the second program.
+pub fn second_table(algorithm: Algorithm, usage: Use) -> Vec<SecondSlot> {
+    let mut table = empty_table();
+    let asked = Asked::from(fields(algorithm, usage));
+    assert_eq!(load(&mut table, 3, &second_fields(asked), &KEY), 0);
+    table
+}
+
+pub fn second_fields(asked: Asked) -> SecondFields {
+    SecondFields {
+        version: asked.version,
+        algorithm: asked.algorithm,
+        usage: asked.usage,
+        side: asked.side,
+        place: asked.place,
+    }
+}
+
+pub fn second_span(span: Span) -> SecondSpan {
+    SecondSpan {
+        start: span.start as u64,
+        length: span.length as u64,
+        skip: span.skip as u64,
+    }
+}
+
+/// What may be shown of each slot.
+pub fn shown(table: &Table) -> Vec<Option<Fields>> {
+    let numbers = 1..=SLOTS as u64;
+    numbers.map(|number| table.read(number).ok()).collect()
+}
+
+/// The same random bytes each time.
+pub fn bytes(count: usize) -> Vec<u8> {
+    Generator::new(1).bytes(count)
+}

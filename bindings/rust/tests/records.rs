@@ -1,0 +1,97 @@
+//! Key records as text, as the second program reads and writes them.
+
+mod common;
+
+use card::{record_read, record_write, Algorithm, Asked, Fields, Refusal, Use, RECORD_BYTES};
+use common::{bytes, second_fields};
+
+/// The record of document 01.
+const TEXT: &[u8] = b"number=3
+version=17
+alg=TEA6
+use=SEND
+side=0
+place=28
+key=000000000000000000000000000000000000000000000001
+";
+
+/// The card reads a text as the second program does.
+fn same(text: &[u8]) {
+    let expected = second::records::read(text);
+    match record_read(text) {
+        Ok(record) => {
+            assert_eq!(expected.refusal, 0, "{text:?}");
+            assert_eq!(record.number, expected.number, "{text:?}");
+            let asked = Asked::from(record.fields);
+            assert_eq!(second_fields(asked), expected.fields, "{text:?}");
+            assert_eq!(*record.key, expected.key, "{text:?}");
+            assert_eq!(record.length as u64, expected.length, "{text:?}");
+        }
+        Err(refusal) => {
+            let line = expected.line as u8;
+            assert_eq!(refusal, Refusal::RecordText { line }, "{text:?}");
+            assert_eq!(u64::from(refusal.number()), expected.refusal);
+        }
+    }
+}
+
+#[test]
+fn the_record_of_document_01_reads_and_writes_back() {
+    same(TEXT);
+    let record = record_read(TEXT).unwrap();
+    let expected = Fields {
+        version: 17,
+        algorithm: Algorithm::Tea6,
+        usage: Use::Send,
+        side: 0,
+        place: 28,
+    };
+    assert_eq!((record.number, record.fields), (3, expected));
+
+    for room in [TEXT.len(), RECORD_BYTES, 200] {
+        let mut buffer = bytes(room);
+        let length = record_write(record.number, record.fields, &record.key, &mut buffer);
+        assert_eq!(length, Ok(TEXT.len()));
+        assert_eq!(&buffer[..TEXT.len()], TEXT);
+        assert_eq!(buffer[TEXT.len()..], bytes(room)[TEXT.len()..]);
+    }
+}
+
+#[test]
+fn what_follows_a_record_is_not_judged() {
+    let text = [TEXT, b"\xff\0number=99"].concat();
+    same(&text);
+    assert_eq!(record_read(&text).unwrap().length, TEXT.len());
+}
+
+#[test]
+fn texts_that_are_cut_short_have_the_line() {
+    for length in 0..TEXT.len() {
+        assert!(record_read(&TEXT[..length]).is_err());
+        same(&TEXT[..length]);
+    }
+}
+
+#[test]
+fn texts_with_another_byte_have_the_line() {
+    for place in 0..TEXT.len() {
+        for byte in [0, b'\n', b'\r', b' ', b'0', b'1', b'9', b'F', b'f', 0xff] {
+            let mut text = TEXT.to_vec();
+            text[place] = byte;
+            same(&text);
+        }
+    }
+}
+
+#[test]
+fn a_refusal_says_what_its_line_should_be() {
+    let lines = TEXT.split(|byte| *byte == b'\n');
+    for (line, text) in (1..=7).zip(lines) {
+        let name = String::from_utf8_lossy(text);
+        let name = name.split_inclusive('=').next().unwrap();
+        let printed = Refusal::RecordText { line }.to_string();
+        let start = format!("refused with 15: line {line} of the record is wrong or cut short");
+        assert!(printed.starts_with(&start), "{printed}");
+        assert!(printed.contains(&format!("should be {name}")), "{printed}");
+    }
+}

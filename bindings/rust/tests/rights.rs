@@ -1,0 +1,74 @@
+//! What a key is for, through moves.
+
+mod common;
+
+use card::{Algorithm, Direction, Fields, Refusal, Use, KEEP};
+use common::{fields, table, IV, WHOLE_BYTE};
+
+/// A good initial value for a receive by side 0.
+fn other_side() -> [u8; 10] {
+    let mut iv = IV;
+    iv[3] ^= 0x08;
+    iv
+}
+
+#[test]
+fn a_key_for_sending_stays_one_through_moves() {
+    let mut table = table(Algorithm::Tea6, Use::Send);
+    for (from, to) in [(3, 9), (9, 32), (32, 1)] {
+        table.move_slot(from, to, KEEP).unwrap();
+        assert_eq!(table.read(from), Err(Refusal::SlotEmpty));
+        assert_eq!(table.read(to), Ok(fields(Algorithm::Tea6, Use::Send)));
+
+        let mut buffer = [0x55];
+        let received = table.traffic(
+            Direction::Receive,
+            to,
+            &other_side(),
+            &mut buffer,
+            WHOLE_BYTE,
+        );
+        assert_eq!(received.unwrap_err().number(), 12);
+        assert_eq!(buffer, [0x55]);
+        table
+            .traffic(Direction::Send, to, &IV, &mut buffer, WHOLE_BYTE)
+            .unwrap();
+        assert_ne!(buffer, [0x55]);
+    }
+}
+
+#[test]
+fn a_move_narrows_and_never_widens() {
+    let uses = [Use::Send, Use::Receive, Use::Both];
+    for present in uses {
+        for asked in uses {
+            let mut card = table(Algorithm::Tea5, present);
+            let mut second = common::second_table(Algorithm::Tea5, present);
+            let expected = second::slots::move_slot(&mut second, 3, 4, asked.into());
+            match card.move_slot(3, 4, asked) {
+                Ok(()) => {
+                    assert_eq!(expected, 0);
+                    let moved: Fields = card.read(4).unwrap();
+                    assert_eq!(moved, fields(Algorithm::Tea5, asked));
+                }
+                Err(refusal) => {
+                    assert_eq!(refusal, Refusal::UseWider);
+                    assert_eq!(u64::from(refusal.number()), expected);
+                    assert_eq!(card.read(3), Ok(fields(Algorithm::Tea5, present)));
+                    assert_eq!(card.read(4), Err(Refusal::SlotEmpty));
+                }
+            }
+        }
+    }
+}
+
+#[test]
+fn a_cleared_slot_is_empty_and_can_be_filled() {
+    let mut table = table(Algorithm::Tea7, Use::Both);
+    table.clear(3).unwrap();
+    assert_eq!(table.clear(3), Err(Refusal::SlotEmpty));
+    table
+        .load(3, fields(Algorithm::Tea5, Use::Receive), &[1; 24])
+        .unwrap();
+    assert_eq!(table.read(3), Ok(fields(Algorithm::Tea5, Use::Receive)));
+}
