@@ -1,0 +1,31 @@
+/* The calls of card.h that the tour leaves out, with the record and the plan of document 01. */
+#include "card.h"
+#include <stdio.h>
+#include <string.h>
+
+static const char record[] = "number=3\nversion=17\nalg=TEA6\nuse=SEND\nside=0\nplace=28\n"
+                             "key=000000000000000000000000000000000000000000000001\n";
+
+int main(void) {
+    uint64_t shown[6];
+    uint8_t key[CARD_KEY_BYTES], written[CARD_RECORD_BYTES], keystream[40] = {0};
+    const uint8_t iv[CARD_IV_BYTES] = {0};
+    size_t used, line, length, pieces[6], blocks;
+
+    printf("record read: %d\n", card_record_read((const uint8_t *)record, strlen(record), shown, key, &used, &line));
+    for (int i = 0; i < 6; i++) printf("%d ", (int)shown[i]);
+    printf("used %s, line %d\n", used == strlen(record) ? "all" : "not all", (int)line);
+
+    printf("record write: %d\n", card_record_write(shown[0], (uint16_t)shown[1], shown[2], shown[3], shown[4], shown[5],
+                                                   key, written, sizeof written, &length));
+    printf("%s\n", length == used && memcmp(written, record, length) == 0 ? "the same" : "another");
+
+    printf("plan: %d\n", card_plan(1, 3, 0, 124, 10, 50, pieces));
+    for (int i = 0; i < 6; i++) printf("%d%s", (int)pieces[i], i < 5 ? " " : "\n");
+
+    printf("bench: %d", card_bench(CARD_TEA6, key, sizeof key, iv, sizeof iv, keystream, sizeof keystream, 320, &blocks));
+    printf(", blocks %d\n", (int)blocks);
+    for (size_t i = 0; i < sizeof keystream; i++) printf("%02x", keystream[i]);
+    printf("\n");
+    return 0;
+}
