@@ -1,0 +1,80 @@
+//! The numbers are those of include/card.h.
+
+use std::collections::BTreeMap;
+
+use card::{Algorithm, Direction, PduKind, Refusal, Use, KEEP};
+
+const HEADER: &str = include_str!("../../../include/card.h");
+
+/// The header's constants, `CARD_NAME = NUMBER`, without their prefix.
+fn constants() -> BTreeMap<&'static str, u64> {
+    let named = HEADER.split("CARD_").skip(1);
+    let constant = |text: &'static str| {
+        let (name, rest) = text.split_once(" = ")?;
+        let letters = |byte: u8| byte.is_ascii_uppercase() || byte.is_ascii_digit() || byte == b'_';
+        let end = rest.find(|letter: char| !letter.is_ascii_digit())?;
+        name.bytes()
+            .all(letters)
+            .then_some((name, rest[..end].parse().ok()?))
+    };
+    named.filter_map(constant).collect()
+}
+
+const REFUSALS: [(&str, Refusal); 19] = [
+    ("ALGORITHM", Refusal::Algorithm),
+    ("BENCH_KEY", Refusal::BenchKey),
+    ("IV_SIZE", Refusal::IvSize),
+    ("LENGTH", Refusal::Length),
+    ("BUFFER", Refusal::Buffer),
+    ("SPAN", Refusal::Span),
+    ("SLOT_NUMBER", Refusal::SlotNumber),
+    ("SLOT_EMPTY", Refusal::SlotEmpty),
+    ("TARGET_FILLED", Refusal::TargetFilled),
+    ("CODE", Refusal::Code),
+    ("SIDE_OR_PLACE", Refusal::SideOrPlace),
+    ("DIRECTION", Refusal::Direction),
+    ("IV_SIDE", Refusal::IvSide),
+    ("USE_WIDER", Refusal::UseWider),
+    ("RECORD_TEXT", Refusal::RecordText { line: 1 }),
+    ("TABLE", Refusal::Table),
+    ("RECORD_ROOM", Refusal::RecordRoom),
+    ("PDU_CODE", Refusal::PduCode),
+    ("PDU_PARTS", Refusal::PduParts),
+];
+
+#[test]
+fn every_number_of_the_header_is_here() {
+    let mut expected: BTreeMap<&str, u64> = BTreeMap::from([
+        ("DONE", 0),
+        ("SLOTS", card::SLOTS as u64),
+        ("KEY_BYTES", card::KEY_BYTES as u64),
+        ("IV_BYTES", card::IV_BYTES as u64),
+        ("BUFFER_BYTES", card::BUFFER_BYTES as u64),
+        ("KEYSTREAM_BITS", card::KEYSTREAM_BITS as u64),
+        ("RECORD_BYTES", card::RECORD_BYTES as u64),
+        ("TEA5", Algorithm::Tea5.into()),
+        ("TEA6", Algorithm::Tea6.into()),
+        ("TEA7", Algorithm::Tea7.into()),
+        ("KEEP", KEEP.number()),
+        ("FOR_SENDING", Use::Send.into()),
+        ("FOR_RECEIVING", Use::Receive.into()),
+        ("FOR_BOTH", Use::Both.into()),
+        ("SEND", Direction::Send.into()),
+        ("RECEIVE", Direction::Receive.into()),
+    ]);
+    expected.extend(REFUSALS.map(|(name, refusal)| (name, u64::from(refusal.number()))));
+    assert_eq!(constants(), expected);
+}
+
+/// The header has no names for them.
+#[test]
+fn the_kinds_of_a_pdu_are_the_headers() {
+    let words = "kind: 1 DMAC-DATA, 2 DMAC-SYNC on SCH/H, 3 DMAC-SYNC on SCH/S;";
+    assert!(HEADER.contains(words));
+    let kinds = [
+        PduKind::DmacData,
+        PduKind::DmacSyncSchH,
+        PduKind::DmacSyncSchS,
+    ];
+    assert_eq!(kinds.map(u64::from), [1, 2, 3]);
+}
