@@ -3,6 +3,8 @@ pub mod Passed
 pub mod Laws
 pub mod Values
 pub mod SlotLaws
+pub mod SlotTurns
+pub mod LocalArray
 pub mod Walk
 pub mod Shared
 pub mod CallRules

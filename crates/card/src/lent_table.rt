@@ -1,7 +1,7 @@
 // A lent list of slot records as a table, and a table back into the list.
 ghost use mathlib.Core.Path.{_≡_};
 ghost use Prim.Native.Nat.{_<_};
-ghost use lib.ListN.{getD, set};
+ghost use lib.ListN.{getD};
 ghost use Rattle.slots.specs.Slots.{nil};
 ghost use Rattle.card.specs.Table.{badTable, tableIn, tableOut};
 use fields::Fields;
@@ -26,15 +26,6 @@ fn bad_table() -> [Slot; 32]
     [slot; 32]
 }
 
-fn with_entry(table: [Slot; 32], i: usize, slot: Slot) -> [Slot; 32]
-    requires { ⌜ i < 32 ⌝ }
-    ensures { λ r. ⌜ r ≡ set table i slot ⌝ }
-{
-    let mut t = table;
-    t[i] = slot;
-    t
-}
-
 // The lent records as a table. Any other number of them than 32 gives a bad table, which every call refuses as document 01 asks.
 pub fn table_of(t: &[Slot]) -> [Slot; 32]
     ensures { λ r. ⌜ r ≡ tableIn (now (t .entry)) ⌝ }
@@ -43,7 +34,7 @@ pub fn table_of(t: &[Slot]) -> [Slot; 32]
     if t.len() == 32 {
         let mut i: usize = 0;
         while i < 32 {
-            table = with_entry(table, i, t[i]);
+            table[i] = t[i];
             i += 1;
         }
     }
