@@ -1,8 +1,5 @@
 // A lent list of slot records as a table, and a table back into the list.
 ghost use mathlib.Core.Path.{_≡_};
-ghost use Prim.Native.Nat.{_<_};
-ghost use lib.ListN.{getD};
-ghost use Rattle.slots.specs.Slots.{nil};
 ghost use Rattle.card.specs.Table.{badTable, tableIn, tableOut};
 use fields::Fields;
 use slots::Changed;
@@ -41,12 +38,10 @@ pub fn table_of(t: &[Slot]) -> [Slot; 32]
     table
 }
 
-fn entry_of(c: Changed, i: usize) -> Slot
-    requires { ⌜ i < 32 ⌝ }
-    ensures { λ r. ⌜ r ≡ getD (c .table) i nil ⌝ }
+fn table_in(c: Changed) -> [Slot; 32]
+    ensures { λ r. ⌜ r ≡ c .table ⌝ }
 {
-    let table = c.table;
-    table[i]
+    c.table
 }
 
 fn refusal_of(c: Changed) -> u8
@@ -60,9 +55,10 @@ pub fn put_changed(t: &mut [Slot], c: Changed) -> u8
     ensures { λ r. ⌜ (r ≡ c .refusal) × (now (t .exit) ≡ tableOut (now (t .entry)) c) ⌝ }
 {
     if t.len() == 32 {
+        let table = table_in(c);
         let mut i: usize = 0;
         while i < 32 {
-            t[i] = entry_of(c, i);
+            t[i] = table[i];
             i += 1;
         }
     }
