@@ -11,12 +11,13 @@ use Rattle.fields.specs.Fields.{isSlotNumber}
 use Rattle.slots.specs.declared.Slot.{Slot}
 use Rattle.slots.specs.Slots.{slotAt}
 use Rattle.slots.specs.Rights.{within}
-use Rattle.card.proofs.Passed.{UsePassed}
+use Rattle.slots.proofs.Passed.{SlotPassed}
 use Rattle.runs.specs.Calls.{Call, load, traffic, Twins, end, more, same}
 use Rattle.runs.specs.Card.{ourCard}
 use Rattle.runs.specs.Run.{callAt, seenAt, tableAt, traceAt}
 use Rattle.runs.specs.Demand.{Ciphers, SendOnly, Kept, Holds, Meets}
-use Rattle.runs.proofs.Demand.{demand-3, accepted}
+use Rattle.runs.proofs.Facts.{our-facts}
+use Rattle.runs.proofs.Demand.{demand-3, taken}
 
 -- no refusal ever depends on a key byte: whatever keys stand at the loads of a list, the refusals are the same
 pub no-refusal-depends-on-a-key : (cs ds : List Call) → Twins (λ place. true) 0 cs ds → (i : ℕ) → seenAt ourCard cs i .refusal ≡ seenAt ourCard ds i .refusal
@@ -39,13 +40,15 @@ module _ (cs : List Call) where
   -- an accepted traffic call uses a key that traces back to a load
   pub traffic-has-an-origin : (i direction number : ℕ) (iv buf : List ℕ) (begin n skip : ℕ) → callAt cs i ≡ traffic direction number iv buf begin n skip → seenAt ourCard cs i .refusal ≡ done
       → (origin : ℕ) × (traceAt ourCard cs i number ≡ some origin)
-  traffic-has-an-origin i direction number iv buf begin n skip call seen = go (traceAt ourCard cs i number) (alone .traces i number (passed .slot .numbered))
+  traffic-has-an-origin i direction number iv buf begin n skip call seen = go (traceAt ourCard cs i number) (alone .traces i number (used .numbered))
     where
-      passed : UsePassed (tableAt ourCard cs i) direction number iv
-      passed = accepted (λ place. false) cs cs (itself cs) i direction number iv buf begin n skip call seen
+      used : SlotPassed (tableAt ourCard cs i) number
+      used =
+          our-facts .on-a-filled-slot _ direction number iv buf begin n skip
+          (taken ourCard our-facts (λ place. false) cs cs (itself cs) i direction number iv buf begin n skip call seen)
 
       go : (origin : Option ℕ) → Holds cs origin (slotAt (tableAt ourCard cs i) number) → (place : ℕ) × (origin ≡ some place)
-      go none h = absurd (true≢false (sym h ∙ passed .slot .there))
+      go none h = absurd (true≢false (sym h ∙ used .there))
       go (some place) h = (place, refl)
 
   -- a slot whose key comes from a load of these fields, after any calls

@@ -1,9 +1,7 @@
-pub mod Each
-pub mod Origins
-pub mod Traffic
+pub mod Local
 pub mod Related
 pub mod Agree
-pub mod Sends
+pub mod Facts
 pub mod Demand
 pub mod Corollaries
 pub mod Steps
