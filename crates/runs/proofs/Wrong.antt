@@ -32,6 +32,7 @@ use Rattle.runs.specs.Step.{Seen, step}
 use Rattle.runs.specs.Trace.{Trace, traced}
 use Rattle.runs.specs.Run.{next, run, stateAt}
 use Rattle.runs.specs.Demand.{Ciphers, MayDiffer, SendOnly, Demand3}
+use Rattle.runs.proofs.Known.{known}
 
 -- our card, but for one answer
 
@@ -195,7 +196,7 @@ counts-by-key demand =
     let e : _≡_ {A = ℕ} 1 2 = demand (λ place. true) _ _ (two-keys (keyOf 0) (keyOf 255) (traffic 1 1 zeros (0 ∷ []) 0 2 0)) .agree 1 .blocks in
     omega arith
 
--- whole last bytes would do only if bit 1 of the keystream, which stands beside a span of one bit, were the same for every two keys
+-- whole last bytes: bit 1 of the keystream, which stands beside a span of one bit, would be the same for two keys
 
 abbrev table : List ℕ → List Slot
 table key = withSlot emptyTable 1 (record { fields = storedOf sendOnly; key = key })
@@ -213,10 +214,14 @@ not-inside m =
     let one : 1 ≡ m .ciphers .n = cc (m .ciphers .call) in
     omega (arith, m .high)
 
-pub whole-last-bytes : Demand3 wholeLastBytes → (key other : List ℕ) → keystream 5 key zeros 1 ≡ keystream 5 other zeros 1
+pub whole-last-bytes : Demand3 wholeLastBytes → ⊥
 unfolding step run next stateAt traced loadRefusal hasBad isBad isFilled isEmpty allZero
-whole-last-bytes demand key other =
+whole-last-bytes demand =
     ⊎-elim
-    (λ e. sym (beside key) ∙ e ∙ beside other)
-    (λ m. absurd (not-inside m))
-    (demand (λ place. true) _ _ (two-keys key other (oneBit zeros 1 1)) .agree 1 .bits 1)
+    (λ same.
+    let bit-0 = beside (keyOf 0) ∙ ap (λ (l : List ℕ). getD l 0 0) known in
+    let bit-1 = beside (keyOf 1) ∙ ap (λ (l : List ℕ). getD l 1 0) known in
+    let e : _≡_ {A = ℕ} 1 0 = sym bit-0 ∙ same ∙ bit-1 in
+    omega arith)
+    not-inside
+    (demand (λ place. true) _ _ (two-keys (keyOf 0) (keyOf 1) (oneBit zeros 1 1)) .agree 1 .bits 1)
