@@ -36,7 +36,7 @@ is-send c slot direction iv a included on-side only held =
 
 module _ (card : Card) (facts : Local card) (chosen : ℕ → Bool) (all : List Call) where
   -- one place of two runs; past the ends of the lists there is no call
-  record Side (s t : State) (c : Call) (x y : Seen) : Type 0 where
+  record Both (s t : State) (c : Call) (x y : Seen) : Type 0 where
     related : Related chosen all s t
     agree : Agree chosen c (s .trace) x y
     seen : (x ≡ step card (s .table) c .seen) ⊎ (c ≡ read 0)
@@ -45,19 +45,19 @@ module _ (card : Card) (facts : Local card) (chosen : ℕ → Bool) (all : List 
   abbrev StandAt : ℕ → List Call → Type 0
   StandAt place cs = (k : ℕ) → callAt all (place + k) ≡ callAt cs k
 
-  side-at : (s t : State) {cs ds : List Call} → StandAt (s .place) cs → Related chosen all s t → Twins chosen (s .place) cs ds → (i : ℕ)
-      → Side (stateAt card s cs i) (stateAt card t ds i) (callAt cs i) (getD (run card s cs) i nothing) (getD (run card t ds) i nothing)
+  both-at : (s t : State) {cs ds : List Call} → StandAt (s .place) cs → Related chosen all s t → Twins chosen (s .place) cs ds → (i : ℕ)
+      → Both (stateAt card s cs i) (stateAt card t ds i) (callAt cs i) (getD (run card s cs) i nothing) (getD (run card t ds) i nothing)
   unfolding run stateAt next
-  side-at s t stand h end i = record { related = h; agree = told chosen _ _ 0 0 refl; seen = inr refl }
-  side-at s t stand h (more w r) zero = record { related = h; agree = twins-agree card facts chosen all s t h w; seen = inl refl }
-  side-at s t stand h (more {c = c} {d = d} w r) (suc i) =
-      side-at (next card s c) (next card t d)
+  both-at s t stand h end i = record { related = h; agree = told chosen _ _ 0 0 refl; seen = inr refl }
+  both-at s t stand h (more w r) zero = record { related = h; agree = twins-agree card facts chosen all s t h w; seen = inl refl }
+  both-at s t stand h (more {c = c} {d = d} w r) (suc i) =
+      both-at (next card s c) (next card t d)
       (λ k. ap (callAt all) (suc-add (s .place) k ∙ sym (add-suc (s .place) k)) ∙ stand (suc k))
       (related-next chosen all card facts s t h (ap (callAt all) (sym (add-zero (s .place))) ∙ stand 0) w) r i
 
 module _ (card : Card) (facts : Local card) (chosen : ℕ → Bool) (cs ds : List Call) (twins : Twins chosen 0 cs ds) where
-  side : (i : ℕ) → Side card facts chosen cs (stateAt card start cs i) (stateAt card start ds i) (callAt cs i) (seenAt card cs i) (seenAt card ds i)
-  side = side-at card facts chosen cs start start (λ k. ap (callAt cs) (zero-add k)) (related-start chosen cs) twins
+  both : (i : ℕ) → Both card facts chosen cs (stateAt card start cs i) (stateAt card start ds i) (callAt cs i) (seenAt card cs i) (seenAt card ds i)
+  both = both-at card facts chosen cs start start (λ k. ap (callAt cs) (zero-add k)) (related-start chosen cs) twins
 
   -- a traffic call that was seen to be done was accepted on the table before it
   pub taken : (i direction number : ℕ) (iv buf : List ℕ) (begin n skip : ℕ) → callAt cs i ≡ traffic direction number iv buf begin n skip → seenAt card cs i .refusal ≡ done
@@ -67,7 +67,7 @@ module _ (card : Card) (facts : Local card) (chosen : ℕ → Bool) (cs ds : Lis
       ⊎-elim
       (λ e. sym (ap (λ (x : Seen). x .refusal) e ∙ ap (λ (d : Call). step card (tableAt card cs i) d .seen .refusal) call) ∙ done-seen)
       (λ past. let none : _≡_ {A = ℕ} 0 1 = cc (past, call) in absurd (omega arith))
-      (side i .seen)
+      (both i .seen)
 
   sends-at : (i : ℕ) (c : Ciphers (callAt cs i) (traceAt card cs i) (seenAt card cs i)) (a : Asked) → SendOnly (callAt cs (c .origin)) a → IsSend (c .direction) (c .iv) a
   sends-at i c a only =
@@ -76,10 +76,10 @@ module _ (card : Card) (facts : Local card) (chosen : ℕ → Bool) (cs ds : Lis
       is-send (callAt cs (c .origin)) (slotAt (tableAt card cs i) (c .number)) (c .direction) (c .iv) a
       (facts .within-its-use _ (c .direction) (c .number) (c .iv) (c .buf) (c .start) (c .n) (c .skip) e)
       (facts .sends-on-its-side _ (c .direction) (c .number) (c .iv) (c .buf) (c .start) (c .n) (c .skip) e)
-      only (rw (c .traced) at (side i .related .slots .at (c .number) numbered .holds))
+      only (rw (c .traced) at (both i .related .slots .at (c .number) numbered .holds))
 
   meets : Meets card chosen cs ds
-  meets = record { agree = λ i. side i .agree; sends = sends-at; traces = λ i number h. side i .related .slots .at number h .holds }
+  meets = record { agree = λ i. both i .agree; sends = sends-at; traces = λ i number h. both i .related .slots .at number h .holds }
 
 pub unwind : (card : Card) → Local card → Demand3 card
 unwind = meets
