@@ -6,6 +6,5 @@ pub mod Demand
 pub mod Corollaries
 pub mod Steps
 pub mod Example
-pub mod Known
 pub mod Wrong
 pub mod Lent

@@ -32,7 +32,7 @@ use Rattle.runs.specs.Step.{Seen, step}
 use Rattle.runs.specs.Trace.{Trace, traced}
 use Rattle.runs.specs.Run.{next, run, stateAt}
 use Rattle.runs.specs.Demand.{Ciphers, MayDiffer, SendOnly, Demand3}
-use Rattle.runs.proofs.Known.{known}
+use Rattle.keystream.proofs.Known.{known}
 
 -- our card, but for one answer
 
