@@ -1,13 +1,13 @@
 -- What a caller wants to know of traffic: the same call again brings the buffer back, two adjacent spans are one, a refused call changes
 -- nothing, and the blocks reported are those that hold a used bit. Assumes nothing.
-use mathlib.Core.Path.{_≡_, sym, ap, _∙_}
+use mathlib.Core.Path.{_≡_, sym, _∙_}
 use mathlib.Core.List.{List}
 use Prim.Native.Nat.{ℕ, _+_, _<_}
 use borrow.Author.Tests.{eq-eqb, ne-eqb}
 use lib.ListN.{length, getD}
 use Rattle.slots.specs.declared.Slot.{Slot}
 use Rattle.slots.specs.Slots.{slotAt}
-use Rattle.span.specs.Span.{xored, blocksUsed}
+use Rattle.span.specs.Span.{xored}
 use Rattle.span.proofs.Laws.{length-xored, xored-join, xored-twice}
 use Rattle.span.proofs.Stream.{stream-lt}
 use Rattle.span.proofs.Blocks.{UsedBlock, Enumerates, blocks-counted}

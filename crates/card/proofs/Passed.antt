@@ -3,8 +3,7 @@ use mathlib.Core.Bool.{true, false, not, _||_}
 use mathlib.Core.Path.{_≡_}
 use mathlib.Core.List.{List}
 use Prim.Native.Nat.{ℕ, _+_, _*_, _<_, _≤_}
-use native.Mathlib.Omega.{arith}
-use borrow.Author.Tests.{ltb-false, eqb-true, eqb-false, not-false}
+use borrow.Author.Tests.{ltb-false, eqb-true, not-false}
 use lib.Dec.{eqb, ltb, lit<}
 use lib.ListN.{length}
 use Rattle.laws.proofs.Cases.{neither, unpicked, unpicked-own}

@@ -1,5 +1,5 @@
 -- The values that document 01 marks P ("Values to hold"): one table, under one proof. Assumes nothing.
-use mathlib.Core.Path.{_≡_, ap}
+use mathlib.Core.Path.{_≡_}
 use mathlib.Core.Bool.{Bool, true, false, _&&_}
 use mathlib.Core.List.{List, [], _∷_}
 use Prim.Native.Nat.{ℕ, zero, suc, _<_}
@@ -24,7 +24,6 @@ use Rattle.records.specs.Decimals.{mayBegin, mayFollow, afterWithin, after, dec
 use Rattle.records.specs.Words.{useForm}
 use Rattle.records.specs.Hexes.{isHex, hexValue, byte, bytes, keyForm}
 use Rattle.records.specs.Record.{recordForm, recordRead}
-use Rattle.plan.specs.declared.Piece.{Piece}
 use Rattle.plan.specs.declared.Plan.{Plan}
 use Rattle.plan.specs.Plan.{planRefusal, plannedPieces, planOf}
 

@@ -1,7 +1,7 @@
 -- The ranges of a slot's fields (document 01, "Slots and rights"), and refusals 10 and 11 in their order. Assumes nothing: these are definitions.
 use mathlib.Core.Bool.{Bool, _&&_, _||_, not}
 use Prim.Native.Nat.{ℕ}
-use lib.Dec.{leb, ltb}
+use lib.Dec.{leb}
 use Rattle.refusals.specs.Numbers.{done, codeUnknown, sideOrPlaceBad, refuse}
 use Rattle.fields.specs.declared.Asked.{Asked}
 use Rattle.fields.specs.declared.Fields.{Fields}

@@ -11,9 +11,8 @@ use lib.Bits.{bitOr, bitXor, xor-self, xor-zero-r, xor-shr, xor-mod, or-add-and,
 use lib.Dec.{eqb, lit<}
 use lib.ListN.{length, getD, set, length-set, List·getD-append, List·getD-eq-default}
 use lib.Pow.{pow-pos, pow-mono, field, mod-mod-pow}
-use lib.Seq.{ext-getD, getD-set-same, getD-set-other, getD-append-add}
+use lib.Seq.{getD-set-same, getD-set-other, getD-append-add}
 use Rattle.laws.specs.Bits.{bitOf, bitAt, byteOfBits, bytesOfBits}
-use Rattle.laws.specs.Lists.{tabulate}
 use Rattle.laws.proofs.Cases.{below-eight, eq-or-ne, lt-or-le}
 use Rattle.laws.proofs.Lists.{length-tabulate, getD-tabulate, tabulate-ext}
 use Rattle.laws.proofs.Tests.{agree}

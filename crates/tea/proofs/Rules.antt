@@ -1,7 +1,7 @@
 -- Which of document 01's two rules holds of which table of f ("Faults in the scanned tables"), each by one computed test that is carried to
 -- every entry. Where a rule does not hold of a table, that is a fact here too, so that nothing leans on it. Assumes nothing.
 use mathlib.Core.Path.{_≡_, refl, sym, ap, _∙_}
-use mathlib.Core.Bool.{Bool, true, false, _&&_, not}
+use mathlib.Core.Bool.{Bool, _&&_, not}
 use mathlib.Core.List.{List}
 use Prim.Native.Nat.{ℕ, _+_, _*_, _/_, _%_, _<_, zero-le}
 use native.Mathlib.Nat.{zero-add}

@@ -1,7 +1,5 @@
 -- `keystream::block`: the cipher's block, by the callees' contracts. Assumes nothing.
 use mathlib.Core.Path.{ap, _∙_}
-use mathlib.Core.List.{List}
-use Prim.Native.Nat.{ℕ}
 use borrow.Author.Needs.{needs}
 use lib.ListN.{length}
 use Rattle.laws.proofs.Lists.{length-tabulate}

@@ -4,7 +4,7 @@ use mathlib.Core.Path.{ap, _∙_}
 use Prim.Native.Nat.{ℕ}
 use borrow.Author.Needs.{needs}
 use Rattle.span.specs.Span.{xored}
-use Rattle.span.proofs.Laws.{xored-cleared, length-written}
+use Rattle.span.proofs.Laws.{xored-cleared}
 use Rattle.keystream.specs.Stream.{keystream}
 use Rattle.card.proofs.bench.write_keystream.Statement.{statement}
 use Rattle.card.proofs.bench.write_keystream.Tie as tie

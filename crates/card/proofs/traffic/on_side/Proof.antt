@@ -1,10 +1,6 @@
 -- `card::traffic::on_side`: by the bit and the direction. Assumes nothing.
-use mathlib.Core.Bool.{not}
-use mathlib.Core.Path.{ap, _∙_}
-use Prim.Native.Nat.{ℕ}
 use borrow.Author.Needs.{needs}
 use borrow.Author.Tests.{eq-eqb, ne-eqb}
-use lib.Dec.{eqb}
 use Rattle.card.proofs.traffic.on_side.Statement.{statement}
 use Rattle.card.proofs.traffic.on_side.Tie as tie
 

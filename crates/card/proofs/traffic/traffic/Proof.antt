@@ -1,13 +1,11 @@
 -- `card::traffic::traffic`: a refusal keeps the buffer; else the work's contracts say what it holds. Assumes nothing.
-use mathlib.Core.Path.{_≡_, sym, ap, _∙_}
+use mathlib.Core.Path.{_≡_, sym, _∙_}
 use Prim.Native.Nat.{ℕ}
 use native.Mathlib.Omega.{arith}
 use borrow.Author.Needs.{needs}
 use borrow.Author.Tests.{eq-eqb, ne-eqb}
 use Rattle.span.specs.Span.{xored}
 use Rattle.keystream.specs.Stream.{keystream}
-use Rattle.slots.specs.declared.Slot.{Slot}
-use Rattle.slots.specs.Slots.{slotAt}
 use Rattle.card.specs.Traffic.{trafficRefusal, trafficked, trafficBlocks}
 use Rattle.card.proofs.Passed.{TrafficPassed, traffic-passed}
 use Rattle.card.proofs.traffic.traffic.Statement.{statement}

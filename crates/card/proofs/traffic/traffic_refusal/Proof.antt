@@ -1,10 +1,7 @@
 -- `card::traffic::traffic_refusal`: the slot's refusals, and then the span's. Assumes nothing.
-use mathlib.Core.Bool.{not}
-use mathlib.Core.Path.{sym, ap, _∙_}
-use Prim.Native.Nat.{ℕ}
+use mathlib.Core.Path.{sym}
 use borrow.Author.Needs.{needs}
 use borrow.Author.Tests.{eq-eqb, ne-eqb}
-use lib.Dec.{eqb}
 use Rattle.card.specs.Traffic.{trafficRefusal}
 use Rattle.card.proofs.traffic.traffic_refusal.Statement.{statement}
 use Rattle.card.proofs.traffic.traffic_refusal.Tie as tie
