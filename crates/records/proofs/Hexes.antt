@@ -13,7 +13,7 @@ use Rattle.fields.specs.Fields.{between}
 use Rattle.fields.proofs.Ranges.{between-high}
 use Rattle.records.specs.Text.{ascii, lf, hexDigit, hexText}
 use Rattle.records.specs.Form.{Form, done, literal, _>>=_}
-use Rattle.records.specs.Hexes.{isHex, hexValue, halfByte, byte, bytes, keyForm}
+use Rattle.records.specs.Hexes.{isHex, hexValue, hexOr, halfByte, byte, bytes, keyForm}
 use Rattle.records.proofs.Forms.{Spells, Means, parts, both-spell, made-spells, made, both-live, literal-is, literal-spells, literal-live}
 
 -- one digit: each rule is tested over all of them
@@ -43,6 +43,24 @@ unfolding isHex hexValue
 value-small c e =
     ltb-true (hexValue c) 16
     (hex-holds (λ x. ltb (hexValue x) 16) c e (holds (λ x. pick (isHex x) (ltb (hexValue x) 16) true) 0 103 tt c zero-le (hex-most c e)))
+
+-- a digit's value, or 16, is v
+module _ (c v : ℕ) (e : v ≡ hexOr c) where
+  pub no-digit : v ≡ 16 → isHex c ≡ false
+  unfolding hexOr
+  no-digit z = go (isHex c) refl (sym e ∙ z)
+    where
+      go : (x : Bool) → isHex c ≡ x → pick x (hexValue c) 16 ≡ 16 → isHex c ≡ false
+      go true i k = absurd (omega (arith, value-small c i))
+      go false i k = i
+
+  pub a-digit : (v ≡ 16 → ⊥) → (isHex c ≡ true) × (v ≡ hexValue c)
+  unfolding hexOr
+  a-digit z = go (isHex c) refl e
+    where
+      go : (x : Bool) → isHex c ≡ x → v ≡ pick x (hexValue c) 16 → (isHex c ≡ true) × (v ≡ hexValue c)
+      go true i k = (i, k)
+      go false i k = absurd (z k)
 
 digit-of-value : (c : ℕ) → isHex c ≡ true → hexDigit (hexValue c) ≡ c
 unfolding isHex hexValue hexDigit

@@ -114,37 +114,30 @@ unfolding hexText
 hex-append [] l = refl
 hex-append (b ∷ k) l = ap (λ (t : List ℕ). hexDigit (b / 16) ∷ hexDigit (b % 16) ∷ t) (hex-append k l)
 
-pub hex-more : (key : List ℕ) (i : ℕ) → i < length key → hexText (take (i + 1) key) ≡ hexText (take i key) ++ hexText (getD key i 0 ∷ [])
+hex-more : (key : List ℕ) (i : ℕ) → i < length key → hexText (take (i + 1) key) ≡ hexText (take i key) ++ hexText (getD key i 0 ∷ [])
 hex-more key i h =
     ap (λ (n : ℕ). hexText (take n key)) (add-one i) ∙ ap hexText (take-suc key i 0 h) ∙ hex-append (take i key) (getD key i 0 ∷ [])
 
--- the line of a key, of which the name and i bytes are put
-module _ {b b′ b″ : List ℕ} {at start end : ℕ} (key : List ℕ) (i : ℕ) (size : length key ≡ 24) (room : Room b at (lineText "key=" (hexText key)))
-    (name : Put b at (ascii "key=") b′ start) (some : Put b′ start (hexText (take i key)) b″ end) where
-  left : i ≤ 24 → end + (2 * (24 - i) + 1) ≤ length b″
-  left h =
-      omega (
-        arith,
-        name .ends,
-        some .ends,
-        put-length name,
-        put-length some,
-        length-hex (take i key),
-        length-take-le i key (omega arith),
-        length-hex key,
-        length-append (hexText key) (lf ∷ []),
-        room .fits,
-      )
+-- bytes by hex digits, of which i are put
+module _ {b b′ : List ℕ} {at end : ℕ} (l : List ℕ) (i : ℕ) (room : Room b at (hexText l)) (some : Put b at (hexText (take i l)) b′ end) where
+  pub hex-room : (x : ℕ) → i < length l → Room b′ end (hexText (x ∷ []))
+  hex-room x h =
+      record {
+        fits =
+            omega (
+              arith,
+              some .ends,
+              put-length some,
+              length-hex (take i l),
+              length-take-le i l (omega arith),
+              length-hex l,
+              length-hex (x ∷ []),
+              room .fits,
+            );
+      }
 
-  pub key-room : (x : ℕ) → i < 24 → Room b″ end (hexText (x ∷ []))
-  key-room x h = record { fits = omega (arith, left (omega arith), length-hex (x ∷ [])) }
+  pub hex-next : i < length l → {b″ : List ℕ} {last : ℕ} → Put b′ end (hexText (getD l i 0 ∷ [])) b″ last → Put b at (hexText (take (i + 1) l)) b″ last
+  hex-next h p = put-as (sym (hex-more l i h)) (put-then some p)
 
-  pub key-more : i < 24 → {b‴ : List ℕ} {last : ℕ} → Put b″ end (hexText (getD key i 0 ∷ [])) b‴ last → Put b′ start (hexText (take (i + 1) key)) b‴ last
-  key-more h p = put-as (sym (hex-more key i (omega arith))) (put-then some p)
-
-  module _ (full : i ≤ 24) (all : 24 ≤ i) where
-    pub key-end : Room b″ end (lf ∷ [])
-    key-end = record { fits = omega (arith, left full) }
-
-    pub key-put : {b‴ : List ℕ} {last : ℕ} → Put b″ end (lf ∷ []) b‴ last → Put b at (lineText "key=" (hexText key)) b‴ last
-    key-put p = put-then name (put-then (put-as (ap hexText (take-all i key (omega arith))) some) p)
+  pub hex-whole : length l ≤ i → Put b at (hexText l) b′ end
+  hex-whole h = put-as (ap hexText (take-all i l h)) some

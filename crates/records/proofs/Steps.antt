@@ -17,9 +17,9 @@ use Rattle.records.specs.Text.{lf}
 use Rattle.records.specs.Form.{Form, done, next, Outcome, found, wrong, readAt, literal, _>>=_}
 use Rattle.records.specs.Decimals.{mayFollow, after}
 use Rattle.records.specs.Words.{restOfUse, useForm}
-use Rattle.records.specs.Hexes.{isHex, hexValue, hexOr, halfByte}
+use Rattle.records.specs.Hexes.{hexOr, halfByte}
 use Rattle.records.specs.Reading.{goodTo, onward, answer, keyAnswer}
-use Rattle.records.proofs.Hexes.{value-small}
+use Rattle.records.proofs.Hexes.{no-digit, a-digit}
 use Rattle.records.proofs.Decimals.{after-is, or-right}
 use Rattle.records.proofs.Forms.{Spells, spelt, onto, both-read}
 
@@ -141,20 +141,12 @@ module _ (s : List ℕ) (p : ℕ) where
 
 module _ (s : List ℕ) (p v : ℕ) (h : p < length s) (e : v ≡ hexOr (getD s p 0)) where
   pub half-no : v ≡ 16 → readAt halfByte s p ≡ wrong p
-  unfolding hexOr
-  half-no z = step-no _ _ s p h (go (isHex (getD s p 0)) refl (sym e ∙ z))
-    where
-      go : (x : Bool) → isHex (getD s p 0) ≡ x → pick x (hexValue (getD s p 0)) 16 ≡ 16 → isHex (getD s p 0) ≡ false
-      go true i k = absurd (omega (arith, value-small (getD s p 0) i))
-      go false i k = i
+  half-no z = step-no _ _ s p h (no-digit _ _ e z)
 
   pub half-yes : (v ≡ 16 → ⊥) → readAt halfByte s p ≡ found v (p + 1)
-  unfolding hexOr
-  half-yes z = go (isHex (getD s p 0)) refl e
-    where
-      go : (x : Bool) → isHex (getD s p 0) ≡ x → v ≡ pick x (hexValue (getD s p 0)) 16 → readAt halfByte s p ≡ found v (p + 1)
-      go true i k = step-yes _ _ s p h i ∙ step-done _ s (p + 1) ∙ ap (λ (n : ℕ). found n (p + 1)) (sym k)
-      go false i k = absurd (z k)
+  half-yes z =
+      let d = a-digit _ _ e z in
+      step-yes _ _ s p h (d .0) ∙ step-done _ s (p + 1) ∙ ap (λ (n : ℕ). found n (p + 1)) (sym (d .1))
 
 -- a number, after digits of the value n
 

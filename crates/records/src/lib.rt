@@ -1,5 +1,5 @@
 // Key records as text (document 01, "Key records"): reading one from the front of a text, and writing one to the front of a buffer.
-mod reading;
+pub mod reading;
 pub mod writing;
 
 use fields::Asked;

@@ -192,7 +192,7 @@ pub fn read_use(s: &[u8], before: Reading) -> Reading
 }
 
 // The value of a lower-case hex digit, or 16.
-fn hex_value(c: u8) -> u64
+pub fn hex_value(c: u8) -> u64
     ensures { λ r. ⌜ r ≡ hexOr c ⌝ }
 {
     if c < 48 {

@@ -94,17 +94,27 @@ fn put_byte(buffer: &mut [u8], at: usize, b: u8) -> usize
     at + 2
 }
 
+// Bytes by two hex digits each.
+pub fn put_hex<'a>(buffer: &'a mut [u8], at: usize, bytes: &'a [u8]) -> usize
+    requires { ⌜ Room (now buffer) at (hexText (now bytes)) ⌝ }
+    ensures { λ r. ⌜ Put (now (buffer .entry)) at (hexText (now (bytes .entry))) (now (buffer .exit)) r ⌝ }
+{
+    let mut end = at;
+    let mut i = 0;
+    while i < bytes.len() {
+        let next = put_byte(buffer, end, bytes[i]);
+        end = next;
+        i += 1;
+    }
+    end
+}
+
 // The line of a key.
 pub fn put_key(buffer: &mut [u8], at: usize, key: [u8; 24]) -> usize
     requires { ⌜ Room (now buffer) at (lineText "key=" (hexText key)) ⌝ }
     ensures { λ r. ⌜ Put (now (buffer .entry)) at (lineText "key=" (hexText key)) (now (buffer .exit)) r ⌝ }
 {
-    let mut end = put_bytes(buffer, at, b"key=");
-    let mut i = 0;
-    while i < 24 {
-        let next = put_byte(buffer, end, key[i]);
-        end = next;
-        i += 1;
-    }
+    let value = put_bytes(buffer, at, b"key=");
+    let end = put_hex(buffer, value, &key);
     put_bytes(buffer, end, b"\n")
 }
