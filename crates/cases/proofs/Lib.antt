@@ -1,0 +1,5 @@
+pub mod Pieces
+pub mod Digits
+pub mod Hexes
+pub mod Passed
+pub mod Texts

@@ -1,0 +1,79 @@
+-- The laws of pieces: where a byte first stands, and what follows it. Assumes nothing.
+use mathlib.Core.Path.{_≡_, refl, sym, ap, _∙_}
+use mathlib.Core.Bool.{Bool, true, false}
+use mathlib.Core.List.{List, [], _∷_}
+use Prim.Native.Nat.{ℕ, suc, _+_, _-_, _<_, _≤_}
+use native.Mathlib.Numerals.{add-one}
+use native.Mathlib.Omega.{arith}
+use lib.Dec.{eqb}
+use lib.ListN.{length, getD, take, drop, drop-of-length-le, length-drop}
+use lib.Seq.{drop-cons, drop-drop, take-all}
+use borrow.Author.Tests.{eq-eqb, ne-eqb, eqb-false}
+use Rattle.laws.specs.Choice.{pick}
+use Rattle.cases.specs.Line.{indexOf, pieceLength, afterSpaces, space}
+
+-- the search from the place i on
+module _ (b : ℕ) (s : List ℕ) (i : ℕ) where
+  pub index-end : length s ≤ i → indexOf b (drop i s) ≡ 0
+  unfolding indexOf
+  index-end h = rw (drop-of-length-le s h)
+
+  pub index-here : i < length s → getD s i 0 ≡ b → indexOf b (drop i s) ≡ 0
+  unfolding indexOf
+  index-here h e = rw (drop-cons s i 0 h, eq-eqb (getD s i 0) b e)
+
+  pub index-on : i < length s → (getD s i 0 ≡ b → ⊥) → indexOf b (drop i s) ≡ suc (indexOf b (drop (i + 1) s))
+  unfolding indexOf
+  index-on h n = rw (add-one i, drop-cons s i 0 h, ne-eqb (getD s i 0) b n)
+
+pub index-within : (b : ℕ) (s : List ℕ) → indexOf b s ≤ length s
+unfolding indexOf
+index-within b [] = omega arith
+index-within b (x ∷ s) = go (eqb x b) (index-within b s)
+  where
+    go : (t : Bool) → indexOf b s ≤ length s → pick t 0 (suc (indexOf b s)) ≤ suc (length s)
+    go true h = omega arith
+    go false h = omega arith
+
+-- a piece lies within the text, and takes some of it
+module _ (b : ℕ) (s : List ℕ) where
+  pub piece-within : pieceLength b s ≤ length s
+  unfolding pieceLength
+  piece-within = go (eqb (indexOf b s) (length s)) refl
+    where
+      go : (t : Bool) → eqb (indexOf b s) (length s) ≡ t → pick t (length s) (suc (indexOf b s)) ≤ length s
+      go true e = omega arith
+      go false e = omega (arith, index-within b s, eqb-false (indexOf b s) (length s) e)
+
+  pub piece-some : 0 < length s → 0 < pieceLength b s
+  unfolding pieceLength
+  piece-some h = go (eqb (indexOf b s) (length s))
+    where
+      go : (t : Bool) → 0 < pick t (length s) (suc (indexOf b s))
+      go true = omega arith
+      go false = omega arith
+
+-- the part of a text from a place on
+pub rest-is : (s : List ℕ) (at : ℕ) → take (length s - at) (drop at s) ≡ drop at s
+rest-is s at = take-all (length s - at) (drop at s) (simp length-drop (omega arith))
+
+-- one space more: of k, i were passed, up to the place at, and the next piece takes n bytes
+module _ (line : List ℕ) (k i at n : ℕ) (e : n ≡ pieceLength space (take (length line - at) (drop at line))) where
+  piece : n ≡ pieceLength space (drop at line)
+  piece = e ∙ ap (pieceLength space) (rest-is line at)
+
+  pub step-within : at ≤ length line → at + n ≤ length line
+  step-within h = omega (arith, piece, piece-within space (drop at line), length-drop at line)
+
+  pub step-on : i < k → afterSpaces (k - i) (drop at line) ≡ afterSpaces (k - (i + 1)) (drop (at + n) line)
+  unfolding afterSpaces
+  step-on h =
+      let z : k - i ≡ suc (k - (i + 1)) = omega arith in
+      ap (λ (m : ℕ). afterSpaces m (drop at line)) z
+      ∙ ap (afterSpaces (k - (i + 1))) (ap (λ (m : ℕ). drop m (drop at line)) (sym piece) ∙ drop-drop n at line)
+
+pub step-all : (line : List ℕ) (k i at : ℕ) → k ≤ i → afterSpaces (k - i) (drop at line) ≡ take (length line - at) (drop at line)
+unfolding afterSpaces
+step-all line k i at h =
+    let z : k - i ≡ 0 = omega arith in
+    ap (λ (m : ℕ). afterSpaces m (drop at line)) z ∙ sym (rest-is line at)

@@ -1,0 +1,89 @@
+-- Which text answers a line, and how long it is. Assumes nothing.
+use mathlib.Core.Bool.{true, false}
+use mathlib.Core.List.{List, [], _∷_, _++_}
+use mathlib.Core.Path.{_≡_, ap, _∙_}
+use Prim.Native.Nat.{ℕ, _+_, _*_, _≤_}
+use native.Mathlib.Omega.{arith}
+use lib.ListN.{length, length-append}
+use borrow.Author.Tests.{eq-eqb, ne-eqb}
+use Rattle.laws.proofs.Lists.{length-tabulate}
+use Rattle.span.proofs.Laws.{length-xored}
+use Rattle.tea.specs.Mixing.{mixedValue}
+use Rattle.tea.specs.Mode.{modeKey, modeValue, modeBy, modeOf}
+use Rattle.records.specs.Text.{ascii, lf, digits, hexText}
+use Rattle.records.specs.Writing.{Room}
+use Rattle.records.proofs.Puts.{length-hex}
+use Rattle.records.proofs.Lengths.{digits-short}
+use Rattle.cases.specs.Line.{space, indexOf, upTo}
+use Rattle.cases.specs.Case.{Case, isReadable, caseOf, refusalOf, Accepted}
+use Rattle.cases.specs.Answer.{valueText, modeText, ciphered, bufferText, acceptedText, refusedText, unreadableText, caseText, answerText, room}
+use Rattle.cases.proofs.Passed.{passed}
+
+module _ (line : List ℕ) where
+  pub text-unreadable : isReadable line ≡ false → unreadableText ≡ caseText line
+  unfolding caseText
+  text-unreadable e = rw e
+
+  pub text-refused : isReadable line ≡ true → (refusalOf (caseOf line) ≡ 0 → ⊥) → refusedText (refusalOf (caseOf line)) ≡ caseText line
+  unfolding caseText
+  text-refused e n = rw (e, ne-eqb (refusalOf (caseOf line)) 0 n)
+
+  pub text-accepted : Accepted line → acceptedText (caseOf line) ≡ caseText line
+  unfolding caseText
+  text-accepted a = rw (a .readable, eq-eqb (refusalOf (caseOf line)) 0 (a .passed))
+
+module _ (s : List ℕ) where
+  pub text-cut : indexOf lf s ≡ length s → unreadableText ≡ answerText s
+  unfolding answerText
+  text-cut e = rw (eq-eqb (indexOf lf s) (length s) e)
+
+  pub text-line : (indexOf lf s ≡ length s → ⊥) → caseText (upTo lf s) ≡ answerText s
+  unfolding answerText
+  text-line n = rw (ne-eqb (indexOf lf s) (length s) n)
+
+value-length : (l : List ℕ) → length l ≡ 24 → length (valueText l) ≡ 49
+value-length l e = omega (arith, length-append (hexText l) (space ∷ []), length-hex l)
+
+mode-length : (algorithm : ℕ) (key iv : List ℕ) → length (modeText algorithm key iv) ≡ 147
+unfolding modeText mixedValue modeOf modeBy modeKey modeValue
+mode-length algorithm key iv =
+    let mixed = mixedValue iv in
+    let k = modeOf algorithm key iv .key in
+    let v = modeOf algorithm key iv .value in
+    omega (
+      arith,
+      length-append (valueText mixed) (valueText k ++ valueText v),
+      length-append (valueText k) (valueText v),
+      value-length mixed (length-tabulate _ 0 24),
+      value-length k (length-tabulate _ 0 24),
+      value-length v (length-tabulate _ 0 24),
+    )
+
+ciphered-length : (c : Case) → length (ciphered c) ≡ length (c .buffer)
+unfolding ciphered
+ciphered-length c = length-xored (c .buffer) _ (c .start) (c .skip) (c .bits)
+
+-- an accepted case's answer fits
+pub accepted-fits : {line : List ℕ} → Accepted line → length (acceptedText (caseOf line)) ≤ room
+unfolding acceptedText
+accepted-fits {line} a =
+    let c = caseOf line in
+    omega (
+      arith,
+      length-append (modeText (c .algorithm) (c .key) (c .iv)) (bufferText c),
+      mode-length (c .algorithm) (c .key) (c .iv),
+      length-append (hexText (ciphered c)) (lf ∷ []),
+      length-hex (ciphered c),
+      ciphered-length c,
+      passed a .span .small,
+    )
+
+-- a refusal is a byte
+pub refused-fits : (refusal : ℕ) → refusal ≤ 255 → length (refusedText refusal) ≤ room
+refused-fits refusal h =
+    omega (
+      arith,
+      length-append (ascii "refused=") (digits refusal ++ (lf ∷ [])),
+      length-append (digits refusal) (lf ∷ []),
+      digits-short refusal,
+    )

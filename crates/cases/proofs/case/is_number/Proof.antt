@@ -1,0 +1,13 @@
+-- `case::is_number`: as the part is read. Assumes nothing.
+use mathlib.Core.Path.{ap, _∙_}
+use borrow.Author.Needs.{needs}
+use Rattle.cases.specs.declared.number.Number.{Number}
+use Rattle.cases.specs.Parts.{numberOf}
+use Rattle.cases.proofs.case.is_number.Statement.{statement}
+use Rattle.cases.proofs.case.is_number.Tie as tie
+
+returns : tie.Need-returns
+returns c = ap (λ (n : Number). n .good) (c .read-number .ensures ∙ ap numberOf (c .before .part .ensures))
+
+pub is-number-spec : {M : Type 1} → statement M
+is-number-spec = tie.close (tie.spec (λ c κs. search needs) (λ c κs. search needs) returns)

@@ -1,0 +1,24 @@
+-- `line::part`: what follows the spaces before it, up to the next. Assumes nothing.
+use mathlib.Core.Path.{sym, ap, _∙_}
+use native.Mathlib.Omega.{arith}
+use lib.ListN.{take}
+use lib.Seq.{length-take-le}
+use borrow.Author.Needs.{needs}
+use Rattle.cases.specs.Line.{indexOf, space, part}
+use Rattle.cases.proofs.Pieces.{index-within}
+use Rattle.cases.proofs.line.part.Statement.{statement}
+use Rattle.cases.proofs.line.part.Tie as tie
+
+slice-aggregate-result : tie.Need-slice-aggregate-result
+slice-aggregate-result c =
+    let rest = c .before .before .after-spaces .result .now in
+    sym (length-take-le _ rest (omega (arith, c .before .index-of .ensures, index-within space rest)))
+
+returns : tie.Need-returns
+unfolding part
+returns c =
+    let e = c .before .before .after-spaces .ensures in
+    λ i. take ((c .before .index-of .ensures ∙ ap (indexOf space) e) i) (e i)
+
+pub part-spec : {M : Type 1} → statement M
+part-spec = tie.close (tie.spec (λ c κs. search needs) (λ c κs. search needs) slice-aggregate-result returns)

@@ -1,0 +1,44 @@
+-- `cases::put_answer`: the answer to the line before the first LF. Assumes nothing.
+use mathlib.Core.List.{List}
+use mathlib.Core.Path.{_≡_, sym, ap, _∙_}
+use Prim.Native.Nat.{ℕ, _≤_}
+use native.Mathlib.Omega.{arith}
+use lib.ListN.{length, take}
+use lib.Seq.{length-take-le}
+use borrow.Author.Needs.{needs}
+use Rattle.records.specs.Text.{lf}
+use Rattle.records.proofs.Puts.{put-length, put-as}
+use Rattle.cases.specs.Answer.{caseText}
+use Rattle.cases.proofs.Pieces.{index-within}
+use Rattle.cases.proofs.Texts.{text-cut, text-line}
+use Rattle.cases.proofs.put_answer.Statement.{statement}
+use Rattle.cases.proofs.put_answer.Tie as tie
+
+returns : tie.Need-returns
+returns c =
+    put-as (text-cut (c .before .before .before .before .before .before .before .before .before .args .s .now) (sym (c .before .before .before .before .before .before .index-of .ensures) ∙ c .before .before .before .before .before .if1 .taken)) (c .before .before .put-bytes .ensures)
+
+slice-aggregate-put-case : tie.Need-slice-aggregate-put-case
+slice-aggregate-put-case c =
+    let s = c .before .before .before .before .before .before .args .s .now in
+    sym (length-take-le _ s (omega (arith, c .before .before .before .index-of .ensures, index-within lf s)))
+
+returns-2 : tie.Need-returns-2
+returns-2 c =
+    let s = c .before .before .before .before .before .before .before .before .before .args .s .now in
+    let e = c .before .before .before .before .before .before .index-of .ensures in
+    put-as (ap (λ (n : ℕ). caseText (take n s)) e ∙ text-line s (λ z. c .before .before .before .before .before .if1 .left (e ∙ z))) (c .before .before .put-case .ensures)
+
+pub put-answer-spec : {M : Type 1} → statement M
+put-answer-spec =
+    tie.close
+    (tie.spec
+    (λ c κs. search needs)
+    (λ c. search needs)
+    (λ c κs. search needs)
+    (λ c. put-length (returns c))
+    returns
+    slice-aggregate-put-case
+    (λ c κs. search needs)
+    (λ c. put-length (returns-2 c))
+    returns-2)

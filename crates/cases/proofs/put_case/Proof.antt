@@ -1,0 +1,60 @@
+-- `cases::put_case`: each answer by the tests that led to it. Assumes nothing.
+use mathlib.Core.Path.{_≡_, sym, ap, _∙_}
+use native.Mathlib.Omega.{arith}
+use lib.ListN.{length, length-append}
+use borrow.Author.Needs.{needs}
+use borrow.Author.Tests.{not-true, not-false}
+use Rattle.records.specs.Writing.{Room}
+use Rattle.records.proofs.Puts.{put-length, put-as}
+use Rattle.cases.specs.Case.{Accepted}
+use Rattle.cases.specs.Answer.{refusedText}
+use Rattle.cases.proofs.Texts.{text-unreadable, text-refused, text-accepted, refused-fits}
+use Rattle.cases.proofs.put_case.Statement.{statement}
+use Rattle.cases.proofs.put_case.Tie as tie
+
+returns : tie.Need-returns
+returns c =
+    put-as (text-unreadable _ (sym (c .before .before .before .before .before .before .is-readable .ensures) ∙ not-true _ (c .before .before .before .before .before .if1 .taken))) (c .before .before .put-bytes .ensures)
+
+put-line-requires : tie.Need-put-line-requires
+put-line-requires c κs = record { fits = omega (arith, refused-fits (c .before .before .before .case-refusal .result) (omega arith), c .before .before .before .before .before .before .before .before .pre) }
+
+returns-2 : tie.Need-returns-2
+returns-2 c =
+    let refused = c .before .before .before .before .before .before in
+    let readable = sym (c .before .before .before .before .before .before .before .before .is-readable .ensures) ∙ not-false _ (c .before .before .before .before .before .before .before .if1 .left) in
+    put-as
+    (ap refusedText (refused .case-refusal .ensures) ∙ text-refused _ readable (λ z. c .before .before .before .before .before .if2 .taken (refused .case-refusal .ensures ∙ z)))
+    (c .before .before .put-line .ensures)
+
+accepted : (c : tie.Else2) → Accepted (c .before .before .before .before .before .before .args .line .now)
+accepted c =
+    record {
+      readable = sym (c .before .before .before .is-readable .ensures) ∙ not-false _ (c .before .before .if1 .left);
+      passed = sym (c .before .case-refusal .ensures) ∙ c .if2 .left;
+    }
+
+put-accepted-requires : tie.Need-put-accepted-requires
+put-accepted-requires c κs = (accepted (c .before), c .before .before .before .before .before .before .before .pre)
+
+returns-3 : tie.Need-returns-3
+returns-3 c = put-as (text-accepted _ (accepted (c .before .before .before .before))) (c .before .before .put-accepted .ensures)
+
+pub put-case-spec : {M : Type 1} → statement M
+put-case-spec =
+    tie.close
+    (tie.spec
+    (λ c κs. search needs)
+    (λ c. search needs)
+    (λ c κs. search needs)
+    (λ c. put-length (returns c))
+    returns
+    (λ c κs. search needs)
+    (λ c. search needs)
+    (λ c. search needs)
+    put-line-requires
+    (λ c. put-length (returns-2 c))
+    returns-2
+    put-accepted-requires
+    (λ c. put-length (returns-3 c))
+    returns-3)

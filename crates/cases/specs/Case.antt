@@ -1,0 +1,61 @@
+-- A case of the program `vectors`, by its line: algorithm, key, initial value, start, length, skip and buffer. Assumes nothing: these are definitions.
+use mathlib.Core.Bool.{Bool, true, not, _&&_}
+use mathlib.Core.List.{List}
+use mathlib.Core.Path.{_≡_}
+use Prim.Native.Nat.{ℕ}
+use lib.Dec.{eqb}
+use lib.ListN.{length}
+use Rattle.refusals.specs.Numbers.{done, algorithmUnknown, benchKeyNot24, ivNot10, refuse}
+use Rattle.fields.specs.Fields.{isAlgorithm}
+use Rattle.card.specs.Span.{spanRefusal}
+use Rattle.cases.specs.Line.{afterSpaces, part}
+use Rattle.cases.specs.Parts.{numberOf, areBytes, bytesOf}
+
+pub record Case : Type 0 where
+  pub algorithm : ℕ
+  pub key : List ℕ
+  pub iv : List ℕ
+  pub start : ℕ
+  pub bits : ℕ
+  pub skip : ℕ
+  pub buffer : List ℕ
+
+-- the last part: what follows six spaces
+abbrev pub lastPart : List ℕ → List ℕ
+lastPart line = afterSpaces 6 line
+
+abbrev pub isNumber : ℕ → List ℕ → Bool
+isNumber k line = numberOf (part k line) .good
+
+unfoldable pub numbersReadable : List ℕ → Bool
+numbersReadable line = isNumber 0 line && (isNumber 3 line && (isNumber 4 line && isNumber 5 line))
+
+-- The last part is never empty, and a space in it is no digit: so a line has neither fewer parts than seven nor more.
+unfoldable pub isReadable : List ℕ → Bool
+isReadable line = numbersReadable line && (areBytes (part 1 line) && (areBytes (part 2 line) && areBytes (lastPart line)))
+
+-- what a readable line says
+unfoldable pub caseOf : List ℕ → Case
+caseOf line =
+    record {
+      algorithm = numberOf (part 0 line) .value;
+      key = bytesOf (part 1 line);
+      iv = bytesOf (part 2 line);
+      start = numberOf (part 3 line) .value;
+      bits = numberOf (part 4 line) .value;
+      skip = numberOf (part 5 line) .value;
+      buffer = bytesOf (lastPart line);
+    }
+
+-- the order of the bench call, with a start and a skip: 1, 2, 3, 5, 4, 6
+unfoldable pub refusalOf : Case → ℕ
+refusalOf c =
+    refuse (not (isAlgorithm (c .algorithm))) algorithmUnknown
+    (refuse (not (eqb (length (c .key)) 24)) benchKeyNot24
+    (refuse (not (eqb (length (c .iv)) 10)) ivNot10
+    (spanRefusal (length (c .buffer)) (c .start) (c .bits) (c .skip))))
+
+-- the line is readable, and its case is not refused
+pub record Accepted (line : List ℕ) : Type 0 where
+  pub readable : isReadable line ≡ true
+  pub passed : refusalOf (caseOf line) ≡ done

@@ -1,0 +1,4 @@
+pub mod Line
+pub mod Parts
+pub mod Case
+pub mod Answer

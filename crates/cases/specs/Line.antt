@@ -1,0 +1,31 @@
+-- A line of a text, and its parts, which single spaces separate. Assumes nothing: these are definitions.
+use mathlib.Core.List.{List, [], _∷_}
+use Prim.Native.Nat.{ℕ, zero, suc}
+use lib.Dec.{eqb}
+use lib.ListN.{length, take, drop}
+use Rattle.laws.specs.Choice.{pick}
+
+abbrev pub space : ℕ
+space = 32
+
+-- the place of the first byte b, or the length where there is none
+unfoldable pub indexOf : ℕ → List ℕ → ℕ
+indexOf b [] = 0
+indexOf b (x ∷ s) = pick (eqb x b) 0 (suc (indexOf b s))
+
+-- the bytes before the first byte b
+abbrev pub upTo : ℕ → List ℕ → List ℕ
+upTo b s = take (indexOf b s) s
+
+-- how many bytes the first piece of a text takes, with the byte b that ends it. The last piece may lack it
+unfoldable pub pieceLength : ℕ → List ℕ → ℕ
+pieceLength b s = pick (eqb (indexOf b s) (length s)) (length s) (suc (indexOf b s))
+
+-- what follows k spaces: nothing, where there are fewer
+unfoldable pub afterSpaces : ℕ → List ℕ → List ℕ
+afterSpaces zero s = s
+afterSpaces (suc k) s = afterSpaces k (drop (pieceLength space s) s)
+
+-- part k of a line, counted from 0
+unfoldable pub part : ℕ → List ℕ → List ℕ
+part k line = upTo space (afterSpaces k line)

@@ -1,0 +1,91 @@
+// Writers of an answer's parts. Each puts a text into the buffer from a place on, and answers with the place at which it ends.
+use crate::bytes::read_bytes;
+use crate::case::buffer_size;
+use crate::case::iv_of;
+use crate::case::key_of;
+use crate::case::value;
+use crate::line::after_spaces;
+use records::writing::put_bytes;
+use records::writing::put_hex;
+use tea::mixing::mixed_value;
+use tea::mode::mode_of;
+ghost use mathlib.Core.Path.{_≡_};
+ghost use Prim.Native.Nat.{_≤_, _/_};
+ghost use lib.ListN.{length};
+ghost use Rattle.records.specs.Writing.{Room, Put};
+ghost use Rattle.cases.specs.Case.{lastPart, caseOf, Accepted};
+ghost use Rattle.cases.specs.Answer.{valueText, modeText, ciphered, bufferText, acceptedText, room};
+
+// A value of 24 bytes and a space.
+fn put_value(out: &mut [u8], at: usize, bytes: [u8; 24]) -> usize
+    requires { ⌜ Room (now out) at (valueText bytes) ⌝ }
+    ensures { λ r. ⌜ Put (now (out .entry)) at (valueText bytes) (now (out .exit)) r ⌝ }
+{
+    let end = put_hex(out, at, &bytes);
+    put_bytes(out, end, b" ")
+}
+
+// Mixed value, mode key and mode value.
+fn put_mode(out: &mut [u8], at: usize, algorithm: u64, ck: [u8; 24], iv: [u8; 10]) -> usize
+    requires { ⌜ Room (now out) at (modeText algorithm ck iv) ⌝ }
+    ensures { λ r. ⌜ Put (now (out .entry)) at (modeText algorithm ck iv) (now (out .exit)) r ⌝ }
+{
+    let mixed = mixed_value(iv);
+    let mode = mode_of(algorithm, ck, iv);
+    let key = mode.key;
+    let value = mode.value;
+    let key_at = put_value(out, at, mixed);
+    let value_at = put_value(out, key_at, key);
+    put_value(out, value_at, value)
+}
+
+// The buffer of a case, ciphered.
+fn cipher(buf: &mut [u8], line: &[u8])
+    requires { ⌜ Accepted (now line) × (length (now buf) ≡ length (lastPart (now line)) / 2) ⌝ }
+    ensures { λ _. ⌜ now (buf .exit) ≡ ciphered (caseOf (now (line .entry))) ⌝ }
+{
+    let algorithm = value(line, 0);
+    let start = value(line, 3) as usize;
+    let bits = value(line, 4) as usize;
+    let skip = value(line, 5) as usize;
+    let ck = key_of(line);
+    let iv = iv_of(line);
+    read_bytes(after_spaces(line, 6), buf);
+    keystream::xor_keystream(buf, start, bits, skip, algorithm, ck, iv);
+}
+
+// The ciphered buffer and LF, by way of a lent buffer of its size.
+fn put_ciphered(out: &mut [u8], at: usize, buf: &mut [u8], line: &[u8]) -> usize
+    requires { ⌜ Accepted (now line) × (length (now buf) ≡ length (lastPart (now line)) / 2) × Room (now out) at (bufferText (caseOf (now line))) ⌝ }
+    ensures { λ r. ⌜ Put (now (out .entry)) at (bufferText (caseOf (now (line .entry)))) (now (out .exit)) r ⌝ }
+{
+    cipher(buf, line);
+    let end = put_hex(out, at, &buf[..]);
+    put_bytes(out, end, b"\n")
+}
+
+// As many bytes as the longest buffer has.
+fn longest() -> [u8; 8192]
+    ensures { λ r. ⌜ length r ≡ 8192 ⌝ }
+{
+    [0; 8192]
+}
+
+// The ciphered buffer and LF.
+fn put_buffer(out: &mut [u8], at: usize, line: &[u8]) -> usize
+    requires { ⌜ Accepted (now line) × Room (now out) at (bufferText (caseOf (now line))) ⌝ }
+    ensures { λ r. ⌜ Put (now (out .entry)) at (bufferText (caseOf (now (line .entry)))) (now (out .exit)) r ⌝ }
+{
+    let mut work = longest();
+    let n = buffer_size(line);
+    put_ciphered(out, at, &mut work[..n], line)
+}
+
+// The answer to a case that is not refused.
+pub fn put_accepted(out: &mut [u8], line: &[u8]) -> usize
+    requires { ⌜ Accepted (now line) × (room ≤ length (now out)) ⌝ }
+    ensures { λ r. ⌜ Put (now (out .entry)) 0 (acceptedText (caseOf (now (line .entry)))) (now (out .exit)) r ⌝ }
+{
+    let at = put_mode(out, 0, value(line, 0), key_of(line), iv_of(line));
+    put_buffer(out, at, line)
+}

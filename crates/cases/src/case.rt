@@ -1,0 +1,114 @@
+// A case by its line: algorithm, key, initial value, start, length, skip and buffer.
+use crate::bytes::are_bytes;
+use crate::bytes::read_bytes;
+use crate::line::after_spaces;
+use crate::line::part;
+use crate::number::read_number;
+use card::span_tests::span_refusal;
+ghost use mathlib.Core.Path.{_≡_};
+ghost use Prim.Native.Nat.{_/_};
+ghost use lib.ListN.{length};
+ghost use Rattle.cases.specs.Line.{part};
+ghost use Rattle.cases.specs.Parts.{numberOf, areBytes};
+ghost use Rattle.cases.specs.Case.{isNumber, lastPart, numbersReadable, isReadable, caseOf, refusalOf, Accepted};
+
+fn is_number(line: &[u8], k: usize) -> bool
+    ensures { λ r. ⌜ r ≡ isNumber k (now (line .entry)) ⌝ }
+{
+    let n = read_number(part(line, k));
+    n.good
+}
+
+// The number that a part is, or 0.
+pub fn value(line: &[u8], k: usize) -> u64
+    ensures { λ r. ⌜ r ≡ numberOf (part k (now (line .entry))) .value ⌝ }
+{
+    let n = read_number(part(line, k));
+    n.value
+}
+
+// How many bytes a part has.
+fn size(line: &[u8], k: usize) -> usize
+    ensures { λ r. ⌜ r ≡ length (part k (now (line .entry))) / 2 ⌝ }
+{
+    let bytes = part(line, k);
+    bytes.len() / 2
+}
+
+// How many bytes the buffer has.
+pub fn buffer_size(line: &[u8]) -> usize
+    ensures { λ r. ⌜ r ≡ length (lastPart (now (line .entry))) / 2 ⌝ }
+{
+    let bytes = after_spaces(line, 6);
+    bytes.len() / 2
+}
+
+fn numbers_readable(line: &[u8]) -> bool
+    ensures { λ r. ⌜ r ≡ numbersReadable (now (line .entry)) ⌝ }
+{
+    if !is_number(line, 0) {
+        return false;
+    }
+    if !is_number(line, 3) {
+        return false;
+    }
+    if !is_number(line, 4) {
+        return false;
+    }
+    is_number(line, 5)
+}
+
+// Has the line the form of a case?
+pub fn is_readable(line: &[u8]) -> bool
+    ensures { λ r. ⌜ r ≡ isReadable (now (line .entry)) ⌝ }
+{
+    if !numbers_readable(line) {
+        return false;
+    }
+    if !are_bytes(part(line, 1)) {
+        return false;
+    }
+    if !are_bytes(part(line, 2)) {
+        return false;
+    }
+    are_bytes(after_spaces(line, 6))
+}
+
+// Refusals 1, 2, 3, 5, 4, 6, in this order.
+pub fn case_refusal(line: &[u8]) -> u8
+    ensures { λ r. ⌜ r ≡ refusalOf (caseOf (now (line .entry))) ⌝ }
+{
+    if !fields::is_algorithm(value(line, 0)) {
+        return refusals::ALGORITHM;
+    }
+    if size(line, 1) != 24 {
+        return refusals::BENCH_KEY;
+    }
+    if size(line, 2) != 10 {
+        return refusals::IV_SIZE;
+    }
+    span_refusal(
+        buffer_size(line),
+        value(line, 3) as usize,
+        value(line, 4) as usize,
+        value(line, 5) as usize,
+    )
+}
+
+pub fn key_of(line: &[u8]) -> [u8; 24]
+    requires { ⌜ Accepted (now line) ⌝ }
+    ensures { λ r. ⌜ r ≡ caseOf (now (line .entry)) .key ⌝ }
+{
+    let mut key = [0u8; 24];
+    read_bytes(part(line, 1), &mut key);
+    key
+}
+
+pub fn iv_of(line: &[u8]) -> [u8; 10]
+    requires { ⌜ Accepted (now line) ⌝ }
+    ensures { λ r. ⌜ r ≡ caseOf (now (line .entry)) .iv ⌝ }
+{
+    let mut iv = [0u8; 10];
+    read_bytes(part(line, 2), &mut iv);
+    iv
+}
