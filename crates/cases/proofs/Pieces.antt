@@ -57,20 +57,25 @@ module _ (b : ℕ) (s : List ℕ) where
 pub rest-is : (s : List ℕ) (at : ℕ) → take (length s - at) (drop at s) ≡ drop at s
 rest-is s at = take-all (length s - at) (drop at s) (simp length-drop (omega arith))
 
--- one space more: of k, i were passed, up to the place at, and the next piece takes n bytes
-module _ (line : List ℕ) (k i at n : ℕ) (e : n ≡ pieceLength space (take (length line - at) (drop at line))) where
-  piece : n ≡ pieceLength space (drop at line)
-  piece = e ∙ ap (pieceLength space) (rest-is line at)
+-- the piece at a place, of n bytes
+module _ (b : ℕ) (s : List ℕ) (at n : ℕ) (e : n ≡ pieceLength b (take (length s - at) (drop at s))) where
+  piece-at : n ≡ pieceLength b (drop at s)
+  piece-at = e ∙ ap (pieceLength b) (rest-is s at)
 
-  pub step-within : at ≤ length line → at + n ≤ length line
-  step-within h = omega (arith, piece, piece-within space (drop at line), length-drop at line)
+  pub step-within : at ≤ length s → at + n ≤ length s
+  step-within h = omega (arith, piece-at, piece-within b (drop at s), length-drop at s)
 
-  pub step-on : i < k → afterSpaces (k - i) (drop at line) ≡ afterSpaces (k - (i + 1)) (drop (at + n) line)
-  unfolding afterSpaces
-  step-on h =
-      let z : k - i ≡ suc (k - (i + 1)) = omega arith in
-      ap (λ (m : ℕ). afterSpaces m (drop at line)) z
-      ∙ ap (afterSpaces (k - (i + 1))) (ap (λ (m : ℕ). drop m (drop at line)) (sym piece) ∙ drop-drop n at line)
+  pub step-some : at < length s → 0 < n
+  step-some h = omega (arith, piece-at, piece-some b (drop at s) (omega (arith, length-drop at s)))
+
+-- one space more: of k, i were passed, up to the place at
+pub step-on : (line : List ℕ) (k i at n : ℕ) → n ≡ pieceLength space (take (length line - at) (drop at line)) → i < k
+    → afterSpaces (k - i) (drop at line) ≡ afterSpaces (k - (i + 1)) (drop (at + n) line)
+unfolding afterSpaces
+step-on line k i at n e h =
+    let z : k - i ≡ suc (k - (i + 1)) = omega arith in
+    ap (λ (m : ℕ). afterSpaces m (drop at line)) z
+    ∙ ap (afterSpaces (k - (i + 1))) (ap (λ (m : ℕ). drop m (drop at line)) (sym (piece-at space line at n e)) ∙ drop-drop n at line)
 
 pub step-all : (line : List ℕ) (k i at : ℕ) → k ≤ i → afterSpaces (k - i) (drop at line) ≡ take (length line - at) (drop at line)
 unfolding afterSpaces

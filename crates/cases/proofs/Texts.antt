@@ -11,8 +11,8 @@ use Rattle.span.proofs.Laws.{length-xored}
 use Rattle.tea.specs.Mixing.{mixedValue}
 use Rattle.tea.specs.Mode.{modeKey, modeValue, modeBy, modeOf}
 use Rattle.records.specs.Text.{ascii, lf, digits, hexText}
-use Rattle.records.specs.Writing.{Room}
-use Rattle.records.proofs.Puts.{length-hex}
+use Rattle.records.specs.Writing.{Put}
+use Rattle.records.proofs.Puts.{put-length, length-hex}
 use Rattle.records.proofs.Lengths.{digits-short}
 use Rattle.cases.specs.Line.{space, indexOf, upTo}
 use Rattle.cases.specs.Case.{Case, isReadable, caseOf, refusalOf, Accepted}
@@ -87,3 +87,7 @@ refused-fits refusal h =
       length-append (digits refusal) (lf ∷ []),
       digits-short refusal,
     )
+
+-- what a caller knows of its buffer after an answer
+pub answered : {b b′ t : List ℕ} {n : ℕ} → (n ≤ room) × Put b 0 t b′ n → room ≤ length b → (length b′ ≡ length b) × (n ≤ length b′)
+answered {b} {b′} {t} {n} p h = let e = put-length (p .1) in (e, omega (arith, p .0))

@@ -1,9 +1,8 @@
 -- `cases::put_answer`: the answer to the line before the first LF. Assumes nothing.
-use mathlib.Core.List.{List}
-use mathlib.Core.Path.{_≡_, sym, ap, _∙_}
-use Prim.Native.Nat.{ℕ, _≤_}
+use mathlib.Core.Path.{sym, ap, _∙_}
+use Prim.Native.Nat.{ℕ}
 use native.Mathlib.Omega.{arith}
-use lib.ListN.{length, take}
+use lib.ListN.{take}
 use lib.Seq.{length-take-le}
 use borrow.Author.Needs.{needs}
 use Rattle.records.specs.Text.{lf}
@@ -16,7 +15,8 @@ use Rattle.cases.proofs.put_answer.Tie as tie
 
 returns : tie.Need-returns
 returns c =
-    put-as (text-cut (c .before .before .before .before .before .before .before .before .before .args .s .now) (sym (c .before .before .before .before .before .before .index-of .ensures) ∙ c .before .before .before .before .before .if1 .taken)) (c .before .before .put-bytes .ensures)
+    let put = c .before .before .put-bytes .ensures in
+    (omega (arith, put .ends), put-as (text-cut (c .before .before .before .before .before .before .before .before .before .args .s .now) (sym (c .before .before .before .before .before .before .index-of .ensures) ∙ c .before .before .before .before .before .if1 .taken)) put)
 
 slice-aggregate-put-case : tie.Need-slice-aggregate-put-case
 slice-aggregate-put-case c =
@@ -25,9 +25,10 @@ slice-aggregate-put-case c =
 
 returns-2 : tie.Need-returns-2
 returns-2 c =
+    let put = c .before .before .put-case .ensures in
     let s = c .before .before .before .before .before .before .before .before .before .args .s .now in
     let e = c .before .before .before .before .before .before .index-of .ensures in
-    put-as (ap (λ (n : ℕ). caseText (take n s)) e ∙ text-line s (λ z. c .before .before .before .before .before .if1 .left (e ∙ z))) (c .before .before .put-case .ensures)
+    (put .0, put-as (ap (λ (n : ℕ). caseText (take n s)) e ∙ text-line s (λ z. c .before .before .before .before .before .if1 .left (e ∙ z))) (put .1))
 
 pub put-answer-spec : {M : Type 1} → statement M
 put-answer-spec =
@@ -36,9 +37,9 @@ put-answer-spec =
     (λ c κs. search needs)
     (λ c. search needs)
     (λ c κs. search needs)
-    (λ c. put-length (returns c))
+    (λ c. put-length (returns c .1))
     returns
     slice-aggregate-put-case
     (λ c κs. search needs)
-    (λ c. put-length (returns-2 c))
+    (λ c. put-length (returns-2 c .1))
     returns-2)

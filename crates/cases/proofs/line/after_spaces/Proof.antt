@@ -4,7 +4,7 @@ use Prim.Native.Nat.{ℕ, _≤_, _-_}
 use native.Mathlib.Omega.{arith}
 use lib.ListN.{length, drop}
 use borrow.Author.Needs.{needs}
-use Rattle.cases.specs.Line.{afterSpaces}
+use Rattle.cases.specs.Line.{space, afterSpaces}
 use Rattle.cases.proofs.Pieces.{step-within, step-on, step-all}
 use Rattle.cases.proofs.line.after_spaces.Statement.{statement}
 use Rattle.cases.proofs.line.after_spaces.Tie as tie
@@ -25,13 +25,13 @@ add-at : tie.Need-add-at Inv-loop μ-loop
 add-at c =
     let loop = c .before .before .before in
     let args = loop .before .before .args in
-    record { fits = omega (arith, step-within (args .line .now) (args .k) (loop .loop .i) (loop .loop .at) _ (c .piece-length .ensures) (loop .loop .inv .0)) }
+    record { fits = omega (arith, step-within space (args .line .now) (loop .loop .at) _ (c .piece-length .ensures) (loop .loop .inv .0)) }
 
 loop-again : tie.Need-loop-again Inv-loop μ-loop
 loop-again c =
     let loop = c .before .before .before in
     let args = loop .before .before .args in (
-      step-within (args .line .now) (args .k) (loop .loop .i) (loop .loop .at) _ (c .piece-length .ensures) (loop .loop .inv .0),
+      step-within space (args .line .now) (loop .loop .at) _ (c .piece-length .ensures) (loop .loop .inv .0),
       loop .loop .inv .1 ∙ step-on (args .line .now) (args .k) (loop .loop .i) (loop .loop .at) _ (c .piece-length .ensures) (c .before .before .loop-test .taken),
     )
 
