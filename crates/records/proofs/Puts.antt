@@ -9,7 +9,7 @@ use lib.ListN.{length, getD, take, drop, set, drop-of-length-le, length-append}
 use lib.Seq.{drop-cons, take-suc, take-all, length-take-le, sets, length-sets, set-comm}
 use borrow.Author.Tests.{eq-eqb, ne-eqb}
 use Rattle.laws.proofs.Cases.{lt-or-le}
-use Rattle.records.specs.Text.{ascii, lf, digits, useWord, hexDigit, hexText, lineText}
+use Rattle.records.specs.Text.{ascii, digits, useWord, hexDigit, hexText}
 use Rattle.records.specs.Writing.{Room, Put}
 use Rattle.records.proofs.Decimals.{digits-one, digits-ten}
 
@@ -87,18 +87,18 @@ put-digit b at n i h e =
     ∙ ap (λ (k : ℕ). set (sets b at (digits (n / 10))) k (48 + n % 10)) (sym e)
     ∙ set-after b at (digits (n / 10)) i (48 + n % 10) (omega arith)
 
--- the words of a use
+-- the word of a use
 
 module _ (u : ℕ) where
-  pub use-send : u ≡ 1 → lineText "use=" (useWord u) ≡ ascii "use=SEND\n"
+  pub use-send : u ≡ 1 → useWord u ≡ ascii "SEND"
   unfolding useWord
   use-send e = rw (eq-eqb u 1 e)
 
-  pub use-recv : (u ≡ 1 → ⊥) → u ≡ 2 → lineText "use=" (useWord u) ≡ ascii "use=RECV\n"
+  pub use-recv : (u ≡ 1 → ⊥) → u ≡ 2 → useWord u ≡ ascii "RECV"
   unfolding useWord
   use-recv n e = rw (ne-eqb u 1 n, eq-eqb u 2 e)
 
-  pub use-both : (u ≡ 1 → ⊥) → (u ≡ 2 → ⊥) → lineText "use=" (useWord u) ≡ ascii "use=BOTH\n"
+  pub use-both : (u ≡ 1 → ⊥) → (u ≡ 2 → ⊥) → useWord u ≡ ascii "BOTH"
   unfolding useWord
   use-both n m = rw (ne-eqb u 1 n, ne-eqb u 2 m)
 

@@ -60,18 +60,28 @@ pub fn put_line<'a>(buffer: &'a mut [u8], at: usize, name: &'a [u8], n: u64) -> 
     put_bytes(buffer, end, b"\n")
 }
 
+// The word of a use.
+pub fn put_word(buffer: &mut [u8], at: usize, usage: u64) -> usize
+    requires { ⌜ Room (now buffer) at (useWord usage) ⌝ }
+    ensures { λ r. ⌜ Put (now (buffer .entry)) at (useWord usage) (now (buffer .exit)) r ⌝ }
+{
+    if usage == 1 {
+        return put_bytes(buffer, at, b"SEND");
+    }
+    if usage == 2 {
+        return put_bytes(buffer, at, b"RECV");
+    }
+    put_bytes(buffer, at, b"BOTH")
+}
+
 // The line of a use.
 pub fn put_use(buffer: &mut [u8], at: usize, usage: u64) -> usize
     requires { ⌜ Room (now buffer) at (lineText "use=" (useWord usage)) ⌝ }
     ensures { λ r. ⌜ Put (now (buffer .entry)) at (lineText "use=" (useWord usage)) (now (buffer .exit)) r ⌝ }
 {
-    if usage == 1 {
-        return put_bytes(buffer, at, b"use=SEND\n");
-    }
-    if usage == 2 {
-        return put_bytes(buffer, at, b"use=RECV\n");
-    }
-    put_bytes(buffer, at, b"use=BOTH\n")
+    let value = put_bytes(buffer, at, b"use=");
+    let end = put_word(buffer, value, usage);
+    put_bytes(buffer, end, b"\n")
 }
 
 fn hex_digit(d: u8) -> u8

@@ -25,21 +25,6 @@ use Rattle.records.proofs.Lengths.{use-length}
 use Rattle.sheet.specs.declared.loading.Loaded.{Loaded}
 use Rattle.sheet.specs.Sheet.{item, slotLine, slotText, slotLines, filledCount, tableText, refusalText, loadedText, longestLine}
 
--- the words of a use
-
-module _ (u : ℕ) where
-  pub use-send : u ≡ 1 → item " use=" (useWord u) ≡ ascii " use=SEND"
-  unfolding useWord
-  use-send e = rw (eq-eqb u 1 e)
-
-  pub use-recv : (u ≡ 1 → ⊥) → u ≡ 2 → item " use=" (useWord u) ≡ ascii " use=RECV"
-  unfolding useWord
-  use-recv n e = rw (ne-eqb u 1 n, eq-eqb u 2 e)
-
-  pub use-both : (u ≡ 1 → ⊥) → (u ≡ 2 → ⊥) → item " use=" (useWord u) ≡ ascii " use=BOTH"
-  unfolding useWord
-  use-both n m = rw (ne-eqb u 1 n, ne-eqb u 2 m)
-
 -- a number below ten to the power k + 1 has at most k + 1 digits
 pub digits-fit : (k n : ℕ) → n < 10 ^ suc k → length (digits n) ≤ suc k
 digits-fit zero n h = omega (arith, length-one n h)

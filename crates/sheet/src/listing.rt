@@ -4,6 +4,7 @@ use fields::Fields;
 use records::writing::put_bytes;
 use records::writing::put_digits;
 use records::writing::put_line;
+use records::writing::put_word;
 use slots::Slot;
 use slots::is_filled;
 ghost use mathlib.Core.Bool.{true};
@@ -29,13 +30,8 @@ fn put_use(buffer: &mut [u8], at: usize, usage: u8) -> usize
     requires { ⌜ Room (now buffer) at (item " use=" (useWord usage)) ⌝ }
     ensures { λ r. ⌜ Put (now (buffer .entry)) at (item " use=" (useWord usage)) (now (buffer .exit)) r ⌝ }
 {
-    if usage == 1 {
-        return put_bytes(buffer, at, b" use=SEND");
-    }
-    if usage == 2 {
-        return put_bytes(buffer, at, b" use=RECV");
-    }
-    put_bytes(buffer, at, b" use=BOTH")
+    let word = put_bytes(buffer, at, b" use=");
+    put_word(buffer, word, usage as u64)
 }
 
 // The line of a filled slot, for a buffer that has room for the longest.
