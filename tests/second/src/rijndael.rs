@@ -13,13 +13,13 @@ pub const KEY_BYTES: usize = 24;
 
 pub type Block = [u8; BLOCK_BYTES];
 pub type Key = [u8; KEY_BYTES];
-type Word = [u8; ROWS];
+pub type Word = [u8; ROWS];
 
 const ROWS: usize = 4;
 const COLUMNS: usize = 8;
 const ROUNDS: usize = 14;
 const KEY_WORDS: usize = KEY_BYTES / ROWS;
-const SCHEDULE_WORDS: usize = COLUMNS * (ROUNDS + 1);
+pub const SCHEDULE_WORDS: usize = COLUMNS * (ROUNDS + 1);
 
 /// How far each row turns left. Blocks of 256 bits have 3 and 4 where shorter ones have 2 and 3.
 const ROW_SHIFTS: [usize; ROWS] = [0, 1, 3, 4];
@@ -47,6 +47,10 @@ impl Schedule {
             words[number] = from_fn(|row| words[number - KEY_WORDS][row] ^ previous[row]);
         }
         Schedule { words }
+    }
+
+    pub fn words(&self) -> &[Word; SCHEDULE_WORDS] {
+        &self.words
     }
 
     pub fn encrypt(&self, block: &Block) -> Block {

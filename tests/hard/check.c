@@ -1,0 +1,144 @@
+#include "check.h"
+
+#include <string.h>
+
+#include "answer.h"
+#include "report.h"
+#include "room.h"
+
+static void hold(const char *law, int holds)
+{
+    if (!holds)
+        report("%s", law);
+}
+
+static void agree(const struct call *call, const struct outcome *given, const struct outcome *expected)
+{
+    if (given->answer == expected->answer && bytes_same(&given->buffer, &expected->buffer) &&
+        memcmp(given->numbers, expected->numbers, sizeof given->numbers) == 0 &&
+        memcmp(given->key, expected->key, sizeof given->key) == 0 && table_same(&given->table, &expected->table))
+        return;
+    report_outcome("card", call, given);
+    report_outcome("second", call, expected);
+    report("card and second program differ");
+}
+
+/* Refused: nothing changed and every number is 0, save the line, which is the last. */
+static void refused_changes_nothing(const struct call *call, const struct table *before, const struct outcome *given)
+{
+    static const uint64_t zeros[MOST_NUMBERS];
+    int line_given = given->answer == CARD_RECORD_TEXT;
+    uint64_t line = given->numbers[MOST_NUMBERS - 1];
+
+    hold("a refused call changed the table", table_same(&given->table, before));
+    hold("a refused call changed the buffer", bytes_same(&given->buffer, &call->buffer));
+    hold("a refused call reports a number",
+         memcmp(given->numbers, zeros, (MOST_NUMBERS - 1) * sizeof zeros[0]) == 0);
+    hold("the line isn't 1 to 7", line_given ? line >= 1 && line <= 7 : line == 0);
+    hold("a refused call gives a key", memcmp(given->key, zeros, CARD_KEY_BYTES) == 0);
+}
+
+static void traffic_twice(const struct call *call, const struct table *table, const struct outcome *given)
+{
+    static struct call again;
+    static struct outcome twice;
+
+    again = *call;
+    bytes_copy(&again.buffer, &given->buffer);
+    answer(&card_face, &again, table, &twice);
+    hold("traffic twice doesn't bring the buffer back",
+         twice.answer == CARD_DONE && bytes_same(&twice.buffer, &call->buffer));
+}
+
+/* What was read is written to a buffer that it just fills. */
+static void written_as_read(const struct call *call, const struct table *table, const struct outcome *given)
+{
+    static struct call write;
+    static struct outcome written;
+    size_t used = given->numbers[6];
+
+    write.kind = RECORD_WRITE;
+    write.number = given->numbers[0];
+    write.version = (uint16_t)given->numbers[1];
+    write.algorithm = given->numbers[2];
+    write.usage = given->numbers[3];
+    write.side = given->numbers[4];
+    write.place = given->numbers[5];
+    memcpy(write.key.at, given->key, CARD_KEY_BYTES);
+    write.buffer.count = used;
+    memset(write.buffer.at, 0, used);
+    answer(&card_face, &write, table, &written);
+    hold("a record that was read isn't written the same",
+         written.answer == CARD_DONE && written.numbers[0] == used &&
+             memcmp(written.buffer.at, call->buffer.at, used) == 0);
+}
+
+static void read_as_written(const struct call *call, const struct table *table, const struct outcome *given)
+{
+    static struct call read;
+    static struct outcome back;
+    const uint64_t shown[] = {call->number, call->version, call->algorithm,   call->usage,
+                              call->side,   call->place,   given->numbers[0], 0};
+
+    read.kind = RECORD_READ;
+    bytes_copy(&read.buffer, &given->buffer);
+    answer(&card_face, &read, table, &back);
+    hold("a record that was written isn't read the same",
+         back.answer == CARD_DONE && memcmp(back.numbers, shown, sizeof shown) == 0 &&
+             memcmp(back.key, call->key.at, CARD_KEY_BYTES) == 0);
+}
+
+/* Traffic with the bench's key on zero bits gives what the bench gives there. */
+static void bench_as_traffic(const struct call *call, const struct outcome *given)
+{
+    static struct call traffic;
+    static struct table table;
+    static struct outcome sent;
+
+    table.slots = CARD_SLOTS;
+    table.at[0] = (struct card_slot){.algorithm = (uint8_t)call->algorithm, .usage = CARD_FOR_BOTH};
+    memcpy(table.at[0].key, call->key.at, CARD_KEY_BYTES);
+    traffic.kind = TRAFFIC;
+    traffic.number = 1;
+    traffic.direction = call->iv.at[0] < 0x80 ? CARD_SEND : CARD_RECEIVE;
+    traffic.length = call->length;
+    bytes_copy(&traffic.iv, &call->iv);
+    bytes_copy(&traffic.buffer, &call->buffer);
+    for (size_t i = 0; i < call->length; i++)
+        traffic.buffer.at[i / 8] &= (uint8_t)~(0x80 >> i % 8);
+    answer(&card_face, &traffic, &table, &sent);
+    hold("bench isn't traffic on zero bits",
+         sent.answer == CARD_DONE && sent.numbers[0] == given->numbers[0] && bytes_same(&sent.buffer, &given->buffer));
+}
+
+static void hold_laws(const struct call *call, const struct table *before, const struct outcome *given)
+{
+    if (given->answer != CARD_DONE)
+        refused_changes_nothing(call, before, given);
+    else if (call->kind == TRAFFIC)
+        traffic_twice(call, before, given);
+    else if (call->kind == BENCH)
+        bench_as_traffic(call, given);
+    else if (call->kind == RECORD_READ)
+        written_as_read(call, before, given);
+    else if (call->kind == RECORD_WRITE)
+        read_as_written(call, before, given);
+}
+
+const struct outcome *check_call(const struct call *call, struct table *table)
+{
+    static struct outcome expected, given;
+
+    report_call(call, table);
+    room_side(FRONT);
+    answer(&oracle_face, call, table, &expected);
+    for (enum side side = FRONT; side <= BACK; side++) {
+        room_side(side);
+        answer(&card_face, call, table, &given);
+        agree(call, &given, &expected);
+    }
+    room_side(FRONT);
+    hold_laws(call, table, &given);
+    table_copy(table, &given.table);
+    return &given;
+}

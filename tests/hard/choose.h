@@ -1,0 +1,28 @@
+/* Arguments, good and bad, of a source's bytes. Most bytes choose good ones; the rest are the edges of what is good,
+   numbers that a narrower type cuts to good ones, sums that wrap, and any number of 64 bits. */
+
+#ifndef CHOOSE_H
+#define CHOOSE_H
+
+#include "call.h"
+#include "source.h"
+
+/* A number of a range of at most 65,536, mostly. */
+uint64_t choose_mostly(struct source *source, uint64_t low, uint64_t high);
+
+/* The number of a slot, mostly of one that is filled, or of one that is empty. */
+uint64_t choose_slot(struct source *source, const struct table *table, int filled);
+
+/* A good slot: filled, or empty. */
+struct card_slot choose_good_slot(struct source *source);
+
+/* How many bytes are lent where `right` is the right number. */
+size_t choose_count(struct source *source, size_t right);
+size_t choose_buffer_count(struct source *source);
+void choose_bytes(struct source *source, struct bytes *bytes, size_t count);
+
+/* A length for a buffer, and where so many bits start, mostly so that they end by `end`. */
+uint64_t choose_length(struct source *source, size_t buffer_bytes);
+uint64_t choose_first_bit(struct source *source, uint64_t length, uint64_t end);
+
+#endif

@@ -1,0 +1,166 @@
+#include "every.h"
+
+#include <string.h>
+
+#include "check.h"
+#include "report.h"
+
+static struct call call;
+static struct table table;
+static unsigned long calls;
+
+/* Slot 1 is filled for both uses, the others are empty. */
+static void begin(enum kind kind)
+{
+    memset(&table, 0, sizeof table);
+    table.slots = CARD_SLOTS;
+    table.at[0] = (struct card_slot){.version = 1, .algorithm = CARD_TEA6, .usage = CARD_FOR_BOTH};
+    memset(table.at[0].key, 0x3c, CARD_KEY_BYTES);
+    memset(&call, 0, sizeof call);
+    call = (struct call){.kind = kind, .number = 1, .to = 2, .algorithm = CARD_TEA5, .usage = CARD_FOR_SENDING,
+                         .direction = CARD_SEND, .length = 9};
+    call.key.count = CARD_KEY_BYTES;
+    call.iv.count = CARD_IV_BYTES;
+    call.buffer.count = 2;
+}
+
+static void make(void)
+{
+    report_place("every call", calls++);
+    check_call(&call, &table);
+}
+
+static void every_key_and_iv_length(void)
+{
+    begin(BENCH);
+    for (call.key.count = 0; call.key.count <= 300; call.key.count++)
+        make();
+    begin(BENCH);
+    for (call.iv.count = 0; call.iv.count <= 300; call.iv.count++)
+        make();
+    begin(TRAFFIC);
+    for (call.iv.count = 0; call.iv.count <= 300; call.iv.count++)
+        make();
+}
+
+/* Buffers of every length, each asked for its last bit and for one more. */
+static void every_buffer_length(enum kind kind)
+{
+    begin(kind);
+    for (size_t bytes = 0; bytes <= CARD_BUFFER_BYTES + 8; bytes++) {
+        call.buffer.count = bytes;
+        call.length = 1;
+        call.start = 8 * bytes - 1;
+        make();
+        call.start = 8 * bytes;
+        make();
+    }
+}
+
+/* From the first bit on, of every number of bits that a short buffer has, and one more. */
+static void every_bench_length(void)
+{
+    begin(BENCH);
+    call.buffer.count = 70;
+    for (call.length = 0; call.length <= 8 * call.buffer.count + 1; call.length++)
+        make();
+}
+
+static void every_shift(void)
+{
+    begin(TRAFFIC);
+    call.buffer.count = 5;
+    for (call.start = 0; call.start < 8; call.start++)
+        for (call.skip = 248; call.skip < 264; call.skip++)
+            for (call.length = 1; call.length <= 17; call.length++)
+                make();
+}
+
+/* Sums that wrap to every small number. */
+static void every_wrap(void)
+{
+    begin(TRAFFIC);
+    for (uint64_t sum = 0; sum < 20; sum++) {
+        for (call.length = 1; call.length <= 16; call.length++) {
+            call.start = sum - call.length;
+            call.skip = 0;
+            make();
+            call.skip = call.start;
+            call.start = 0;
+            make();
+        }
+    }
+}
+
+static void every_number_of_slots(void)
+{
+    static const enum kind kinds[] = {LOAD, MOVE, CLEAR, READ, TRAFFIC};
+
+    for (size_t k = 0; k < sizeof kinds / sizeof kinds[0]; k++)
+        for (size_t slots = 0; slots <= MOST_SLOTS; slots++) {
+            begin(kinds[k]);
+            call.number = kinds[k] == LOAD ? 2 : 1;
+            table.slots = slots;
+            make();
+        }
+}
+
+/* Each byte of a filled slot and of an empty one in turn has every value. */
+static void every_byte_of_a_slot(void)
+{
+    for (size_t place = 0; place < 2 * sizeof(struct card_slot); place++)
+        for (int value = 0; value < 256; value++) {
+            begin(READ);
+            ((uint8_t *)table.at)[place] = (uint8_t)value;
+            make();
+        }
+}
+
+static void every_record_length(void)
+{
+    static const char record[] = "number=32\nversion=65535\nalg=TEA7\nuse=BOTH\nside=1\nplace=79\n"
+                                 "key=0123456789abcdeffedcba9876543210a0b1c2d3e4f59768\n";
+
+    begin(RECORD_READ);
+    memcpy(call.buffer.at, record, sizeof record);
+    for (call.buffer.count = 0; call.buffer.count <= sizeof record; call.buffer.count++)
+        make();
+    begin(RECORD_WRITE);
+    for (call.buffer.count = 0; call.buffer.count <= 2 * CARD_RECORD_BYTES; call.buffer.count++)
+        make();
+}
+
+/* Address and SDU beside each other, over each other, and in PDUs of every edge. */
+static void every_plan(void)
+{
+    static const uint64_t edges[] = {0, 9, 10, 12, 18, 24, 25, 8288, 8289, UINT64_MAX - 23, UINT64_MAX};
+    enum { EDGES = sizeof edges / sizeof edges[0] };
+
+    begin(PLAN);
+    for (int i = 0; i < 5 * 5 * 3; i++) {
+        call.pdu_kind = (uint64_t)i % 5;
+        call.state = (uint64_t)i / 5 % 5;
+        call.flag = (uint64_t)i / 25;
+        for (int j = 0; j < EDGES * EDGES * EDGES; j++) {
+            call.length = edges[j % EDGES];
+            call.address = edges[j / EDGES % EDGES];
+            call.sdu = edges[j / EDGES / EDGES];
+            make();
+        }
+    }
+}
+
+unsigned long every_run(void)
+{
+    every_key_and_iv_length();
+    every_buffer_length(TRAFFIC);
+    every_buffer_length(BENCH);
+    every_bench_length();
+    every_shift();
+    every_wrap();
+    every_number_of_slots();
+    every_byte_of_a_slot();
+    every_record_length();
+    every_plan();
+    return calls;
+}

@@ -1,0 +1,184 @@
+/* Wrong cards, to show that the harness finds them. -DBREAK names the fault; -DSUBJECT=oracle gives it to the second
+   program as well, so that only a law can find it. The linker puts these before the true calls (--wrap). Compiled
+   without sanitizers, as the card is. */
+
+#include <string.h>
+
+#include "card.h"
+
+#ifndef SUBJECT
+#define SUBJECT card
+#endif
+#define JOIN(a, b, c, d) a##b##c##d
+#define NAMED(prefix, subject, name) JOIN(prefix, subject, _, name)
+#define WRAP(name) NAMED(__wrap_, SUBJECT, name)
+#define REAL(name) NAMED(__real_, SUBJECT, name)
+
+extern __typeof__(card_load) REAL(load), WRAP(load);
+extern __typeof__(card_move) REAL(move), WRAP(move);
+extern __typeof__(card_clear) REAL(clear), WRAP(clear);
+extern __typeof__(card_read) REAL(read), WRAP(read);
+extern __typeof__(card_traffic) REAL(traffic), WRAP(traffic);
+extern __typeof__(card_bench) REAL(bench), WRAP(bench);
+extern __typeof__(card_record_read) REAL(record_read), WRAP(record_read);
+extern __typeof__(card_record_write) REAL(record_write), WRAP(record_write);
+extern __typeof__(card_plan) REAL(plan), WRAP(plan);
+
+enum {
+    BYTE_AFTER_BUFFER = 1,
+    BYTE_BEFORE_BUFFER,
+    MEMSET_PAST_BUFFER,
+    READS_PAST_IV,
+    WRITES_TO_KEY,
+    OTHER_REFUSAL,
+    BIT_BESIDE_SPAN,
+    ONE_BLOCK_MORE,
+    SKIP_CUT,
+    LENGTH_CUT,
+    SLOTS_CUT,
+    NO_LINE,
+    USED_ONE_MORE,
+    MOVE_WIDENS,
+    CLEAR_LEAVES_A_BYTE,
+    READ_LEAVES_VERSION,
+    PLAN_LEAVES_PIECE,
+    LOAD_JUDGES_KEY,
+    REFUSED_BENCH_WRITES,
+    RECORD_AND_ONE_BYTE,
+    TRAFFIC_WRITES,
+    BENCH_STARTS_LATE,
+    RECORD_READ_LAX,
+    RECORD_WRITE_LAX
+};
+
+#define IS(fault) (BREAK == (fault))
+
+uint8_t WRAP(load)(struct card_slot *table, size_t slots, uint64_t number, uint16_t version, uint64_t algorithm,
+                   uint64_t usage, uint64_t side, uint64_t place, const uint8_t *key)
+{
+    static const uint8_t zeros[CARD_KEY_BYTES];
+
+    if (IS(LOAD_JUDGES_KEY) && memcmp(key, zeros, sizeof zeros) == 0)
+        return CARD_CODE;
+    if (IS(SLOTS_CUT))
+        slots = (uint32_t)slots;
+    return REAL(load)(table, slots, number, version, algorithm, usage, side, place, key);
+}
+
+uint8_t WRAP(move)(struct card_slot *table, size_t slots, uint64_t from, uint64_t to, uint64_t asked)
+{
+    uint8_t answer = REAL(move)(table, slots, from, to, asked);
+
+    if (IS(MOVE_WIDENS) && answer == CARD_DONE)
+        table[to - 1].usage = CARD_FOR_BOTH;
+    return answer;
+}
+
+uint8_t WRAP(clear)(struct card_slot *table, size_t slots, uint64_t number)
+{
+    uint8_t last = slots == CARD_SLOTS && number - 1 < CARD_SLOTS ? table[number - 1].key[23] : 0;
+    uint8_t answer = REAL(clear)(table, slots, number);
+
+    if (IS(CLEAR_LEAVES_A_BYTE) && answer == CARD_DONE)
+        table[number - 1].key[23] = last;
+    return answer;
+}
+
+uint8_t WRAP(read)(const struct card_slot *table, size_t slots, uint64_t number, uint64_t *there, uint16_t *version,
+                   uint8_t *algorithm, uint8_t *usage, uint8_t *side, uint8_t *place)
+{
+    uint16_t before = *version;
+    uint8_t answer = REAL(read)(table, slots, number, there, version, algorithm, usage, side, place);
+
+    if (IS(READ_LEAVES_VERSION) && answer != CARD_DONE)
+        *version = before;
+    return answer;
+}
+
+/* What a wrong traffic call does after the right one. */
+static void spoil_traffic(uint8_t *buffer, size_t bytes, size_t start, size_t length, size_t *blocks)
+{
+    size_t bit_after = start + length;
+
+    if (IS(BYTE_AFTER_BUFFER))
+        buffer[bytes] ^= 1;
+    if (IS(BYTE_BEFORE_BUFFER))
+        buffer[-1] ^= 1;
+    if (IS(MEMSET_PAST_BUFFER))
+        memset(buffer + bytes - 1, 0, 2);
+    if (IS(BIT_BESIDE_SPAN) && bit_after < 8 * bytes)
+        buffer[bit_after / 8] ^= (uint8_t)(0x80 >> bit_after % 8);
+    if (IS(ONE_BLOCK_MORE))
+        ++*blocks;
+    if (IS(TRAFFIC_WRITES) && start > 0)
+        buffer[0] = 0x55;
+}
+
+uint8_t WRAP(traffic)(const struct card_slot *table, size_t slots, uint64_t direction, uint64_t number,
+                      const uint8_t *iv, size_t iv_bytes, uint8_t *buffer, size_t bytes, size_t start, size_t length,
+                      size_t skip, size_t *blocks)
+{
+    uint8_t answer;
+
+    if (IS(SKIP_CUT))
+        skip = (uint32_t)skip;
+    if (IS(LENGTH_CUT))
+        length = (uint16_t)length;
+    answer = REAL(traffic)(table, slots, direction, number, iv, iv_bytes, buffer, bytes, start, length, skip, blocks);
+    if (answer == CARD_DONE)
+        spoil_traffic(buffer, bytes, start, length, blocks);
+    return IS(OTHER_REFUSAL) && answer == CARD_SPAN ? CARD_LENGTH : answer;
+}
+
+uint8_t WRAP(bench)(uint64_t algorithm, const uint8_t *key, size_t key_bytes, const uint8_t *iv, size_t iv_bytes,
+                    uint8_t *buffer, size_t bytes, size_t length, size_t *blocks)
+{
+    uint8_t answer = REAL(bench)(algorithm, key, key_bytes, iv, iv_bytes, buffer, bytes, length, blocks);
+
+    if (IS(READS_PAST_IV))
+        (void)((const volatile uint8_t *)iv)[iv_bytes];
+    if (IS(WRITES_TO_KEY) && answer == CARD_DONE)
+        ((volatile uint8_t *)key)[0] = key[0];
+    if (IS(REFUSED_BENCH_WRITES) && answer == CARD_SPAN && bytes > 0)
+        buffer[0] ^= 1;
+    if (IS(BENCH_STARTS_LATE) && answer == CARD_DONE)
+        buffer[0] ^= 0x80;
+    return answer;
+}
+
+uint8_t WRAP(record_read)(const uint8_t *text, size_t text_bytes, uint64_t *shown, uint8_t *key, size_t *used,
+                          size_t *line)
+{
+    uint8_t answer = REAL(record_read)(text, text_bytes, shown, key, used, line);
+
+    if (IS(NO_LINE))
+        *line = 0;
+    if (IS(USED_ONE_MORE) && answer == CARD_DONE)
+        ++*used;
+    if (IS(RECORD_READ_LAX) && answer == CARD_DONE)
+        shown[5] ^= 1;
+    return answer;
+}
+
+uint8_t WRAP(record_write)(uint64_t number, uint16_t version, uint64_t algorithm, uint64_t usage, uint64_t side,
+                           uint64_t place, const uint8_t *key, uint8_t *buffer, size_t bytes, size_t *length)
+{
+    uint8_t answer = REAL(record_write)(number, version, algorithm, usage, side, place, key, buffer, bytes, length);
+
+    if (IS(RECORD_AND_ONE_BYTE) && answer == CARD_DONE && *length < bytes)
+        buffer[*length] = 0;
+    if (IS(RECORD_WRITE_LAX) && answer == CARD_DONE && *length < bytes)
+        buffer[*length - 2] = '0';
+    return answer;
+}
+
+uint8_t WRAP(plan)(uint64_t kind, uint64_t state, uint64_t flag, size_t length, size_t address, size_t sdu,
+                   size_t *pieces)
+{
+    size_t before = pieces[5];
+    uint8_t answer = REAL(plan)(kind, state, flag, length, address, sdu, pieces);
+
+    if (IS(PLAN_LEAVES_PIECE) && pieces[4] == 0)
+        pieces[5] = before;
+    return answer;
+}
