@@ -14,6 +14,7 @@ struct place {
     uint8_t *pages; /* null before the first use */
     uint8_t *lent, *guards;
     size_t bytes;
+    int access;
 };
 
 static struct place places[ROOMS];
@@ -26,18 +27,26 @@ void room_side(enum side side)
     present_side = side;
 }
 
-static uint8_t guard(size_t i)
+static void allow(struct place *place, int access)
 {
-    return (uint8_t)(0xa5 ^ i ^ (i >> 8));
+    if (place->access != access && mprotect(place->pages, ROOM_BYTES, access) != 0)
+        report("the access to memory can't be changed");
+    place->access = access;
 }
+
+/* Filled when the first room is opened. */
+static uint8_t pattern[GUARDS];
 
 static void open_pages(struct place *place)
 {
     uint8_t *all = mmap(NULL, ROOM_BYTES + 2 * PAGE, PROT_NONE, MAP_PRIVATE | MAP_ANONYMOUS, -1, 0);
 
-    if (all == MAP_FAILED || mprotect(all + PAGE, ROOM_BYTES, PROT_READ | PROT_WRITE) != 0)
+    if (all == MAP_FAILED)
         report("no memory to lend");
     place->pages = all + PAGE;
+    allow(place, PROT_READ | PROT_WRITE);
+    for (size_t i = 0; i < GUARDS; i++)
+        pattern[i] = (uint8_t)(0xa5 ^ i ^ (i >> 8));
 }
 
 void *room_lend(enum room room, const void *what, size_t bytes)
@@ -52,8 +61,7 @@ void *room_lend(enum room room, const void *what, size_t bytes)
     place->lent = present_side == FRONT ? place->pages : place->pages + ROOM_BYTES - bytes;
     place->guards = present_side == FRONT ? place->lent + bytes : place->lent - GUARDS;
     memcpy(place->lent, what, bytes);
-    for (size_t i = 0; i < GUARDS; i++)
-        place->guards[i] = guard(i);
+    memcpy(place->guards, pattern, GUARDS);
     ASAN_POISON_MEMORY_REGION(place->guards, GUARDS);
     return place->lent;
 }
@@ -62,8 +70,7 @@ const void *room_lend_to_read(enum room room, const void *what, size_t bytes)
 {
     void *lent = room_lend(room, what, bytes);
 
-    if (mprotect(places[room].pages, ROOM_BYTES, PROT_READ) != 0)
-        report("pages can't be made read only");
+    allow(&places[room], PROT_READ);
     return lent;
 }
 
@@ -81,10 +88,8 @@ void room_take(enum room room, void *to)
     const char *name = names[room] != NULL ? names[room] : "a number";
 
     ASAN_UNPOISON_MEMORY_REGION(place->guards, GUARDS);
-    if (mprotect(place->pages, ROOM_BYTES, PROT_READ | PROT_WRITE) != 0)
-        report("pages can't be made writable");
-    for (size_t i = 0; i < GUARDS; i++)
-        if (place->guards[i] != guard(i))
-            report("the card changed what stands beside %s", name);
+    allow(place, PROT_READ | PROT_WRITE);
+    if (memcmp(place->guards, pattern, GUARDS) != 0)
+        report("the card changed what stands beside %s", name);
     memcpy(to, place->lent, place->bytes);
 }

@@ -14,12 +14,14 @@ static void write_record(struct source *source, struct bytes *text)
     static const char *const uses[] = {"SEND", "RECV", "BOTH", "NONE"};
     unsigned long long number = choose_mostly(source, 1, 32), version = choose_mostly(source, 0, 65535);
     unsigned long long side = choose_mostly(source, 0, 1), place = choose_mostly(source, 0, 79);
+    const char *algorithm = algorithms[choose_mostly(source, 0, 2) % 4];
+    const char *use = uses[choose_mostly(source, 0, 2) % 4];
     struct bytes key;
     int length;
 
-    length = snprintf((char *)text->at, MOST_TEXT, "number=%llu\nversion=%llu\nalg=%s\nuse=%s\nside=%llu\nplace=%llu\nkey=",
-                      number, version, algorithms[choose_mostly(source, 0, 2) % 4],
-                      uses[choose_mostly(source, 0, 2) % 4], side, place);
+    length = snprintf((char *)text->at, MOST_TEXT,
+                      "number=%llu\nversion=%llu\nalg=%s\nuse=%s\nside=%llu\nplace=%llu\nkey=", number, version,
+                      algorithm, use, side, place);
     choose_bytes(source, &key, CARD_KEY_BYTES);
     for (int i = 0; i < CARD_KEY_BYTES; i++)
         length += snprintf((char *)text->at + length, 3, "%02x", key.at[i]);

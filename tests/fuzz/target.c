@@ -1,0 +1,42 @@
+/* libFuzzer's target: an input is a list of calls on a table, as tests/hard decodes it. */
+
+#include "check.h"
+#include "decode.h"
+#include "report.h"
+
+/* What libFuzzer counts beside the code that it sees, since the card's own code isn't instrumented: each kind of call
+   with each answer and line, the shifts of a span, and the blocks. */
+static struct {
+    uint8_t answers[KINDS][20][8];
+    uint8_t shifts[2][8][8];
+    uint8_t blocks[2][34];
+} counters __attribute__((section("__libfuzzer_extra_counters")));
+
+int LLVMFuzzerTestOneInput(const uint8_t *bytes, size_t size);
+
+static void count(const struct call *call, const struct outcome *outcome)
+{
+    uint64_t line = call->kind == RECORD_READ ? outcome->numbers[7] : 0;
+
+    counters.answers[call->kind][outcome->answer % 20][line % 8]++;
+    if (outcome->answer != CARD_DONE || (call->kind != TRAFFIC && call->kind != BENCH))
+        return;
+    counters.blocks[call->kind == BENCH][outcome->numbers[0] % 34]++;
+    if (call->kind == TRAFFIC) {
+        counters.shifts[0][call->start % 8][call->skip % 8]++;
+        counters.shifts[1][call->start % 8][call->length % 8]++;
+    }
+}
+
+int LLVMFuzzerTestOneInput(const uint8_t *bytes, size_t size)
+{
+    static struct call call;
+    static struct table table;
+    struct source source = {bytes, size};
+
+    report_place("an input of bytes", size);
+    decode_table(&source, &table);
+    while (decode_call(&source, &table, &call))
+        count(&call, check_call(&call, &table));
+    return 0;
+}
