@@ -1,0 +1,168 @@
+/* What the card's calls leave of keys on the stack and in registers, before and after card_wipe_stack. */
+
+#include <stdio.h>
+#include <string.h>
+
+#include "calls.h"
+#include "card_wipe.h"
+#include "registers.h"
+#include "secrets.h"
+#include "stack.h"
+
+enum { ROUNDS = 200, SEED = 1 };
+
+/* The most over all rounds: of the stack used, of its bytes that aren't zero, and of each secret found. */
+struct most {
+    size_t stack, not_zero;
+    struct found on_stack, in_registers;
+};
+
+static struct most bare[KEYED_CALLS], wiped[KEYED_CALLS];
+static const struct keyed_call *present;
+static uint8_t answer;
+
+static __attribute__((noinline)) void call_alone(void)
+{
+    answer = present->make();
+    registers_keep();
+}
+
+static __attribute__((noinline)) void call_and_wipe(void)
+{
+    answer = present->make();
+    card_wipe_stack();
+    registers_keep();
+}
+
+/* Leaves eight bytes of each secret on the stack and nothing else. */
+static __attribute__((noinline)) void plant(void)
+{
+    uint8_t planted[SECRETS][8];
+
+    for (int secret = 0; secret < SECRETS; secret++)
+        memcpy(planted[secret], secrets_sample((enum secret)secret), 8);
+    __asm__ volatile("" ::"r"(planted) : "memory");
+}
+
+static void raise_to(size_t *most, size_t number)
+{
+    if (number > *most)
+        *most = number;
+}
+
+static void raise_found(struct found *most, const void *bytes, size_t count)
+{
+    struct found found = secrets_search(bytes, count);
+
+    for (int i = 0; i < SECRETS; i++)
+        raise_to(&most->bytes[i], found.bytes[i]);
+}
+
+static size_t not_zero(struct stack_left left)
+{
+    size_t count = 0;
+
+    for (size_t i = 0; i < left.count; i++)
+        count += left.bytes[i] != 0;
+    return count;
+}
+
+static int measure(const struct keyed_call *call, void (*work)(void), struct most *most)
+{
+    struct stack_left left;
+
+    present = call;
+    calls_restore();
+    registers_clear();
+    left = stack_run(work);
+    if (answer != call->answer) {
+        fprintf(stderr, "hygiene: %s answers %u\n", call->name, answer);
+        return 1;
+    }
+    raise_to(&most->stack, left.count);
+    raise_to(&most->not_zero, not_zero(left));
+    raise_found(&most->on_stack, left.bytes, left.count);
+    raise_found(&most->in_registers, &registers_kept, sizeof registers_kept);
+    return 0;
+}
+
+static int planted_is_found(void)
+{
+    struct stack_left left = stack_run(plant);
+    struct found found = secrets_search(left.bytes, left.count);
+    int faults = 0;
+
+    for (int i = 0; i < SECRETS; i++)
+        faults += found.bytes[i] < 8;
+    return faults == 0;
+}
+
+static void print_found(const struct found *found)
+{
+    for (int i = 0; i < SECRETS; i++)
+        printf(" %11zu", found->bytes[i]);
+    printf("\n");
+}
+
+static void print_table(const char *title, const struct most *all)
+{
+    printf("%s\n%-18s %6s %8s", title, "call", "stack", "not zero");
+    for (int i = 0; i < SECRETS; i++)
+        printf(" %11s", secret_names[i]);
+    printf("\n");
+    for (int i = 0; i < KEYED_CALLS; i++) {
+        printf("%-18s %6zu %8zu", keyed_calls[i].name, all[i].stack, all[i].not_zero);
+        print_found(&all[i].on_stack);
+        printf("%-18s %6s %8s", "  registers", "", "");
+        print_found(&all[i].in_registers);
+    }
+    printf("\n");
+}
+
+static size_t sum(const struct found *found)
+{
+    size_t all = 0;
+
+    for (int i = 0; i < SECRETS; i++)
+        all += found->bytes[i];
+    return all;
+}
+
+static int expect(int holds, const char *name, const char *fault)
+{
+    if (!holds)
+        fprintf(stderr, "hygiene: %s: %s\n", name, fault);
+    return !holds;
+}
+
+static int judge(int i)
+{
+    const char *name = keyed_calls[i].name;
+
+    return expect(sum(&bare[i].on_stack) + sum(&bare[i].in_registers) > 0, name, "nothing is found: is it looked for?") +
+           expect(sum(&wiped[i].on_stack) == 0, name, "the wipe leaves something on the stack") +
+           expect(sum(&wiped[i].in_registers) == 0 || !REGISTERS_SEEN, name, "the wipe leaves something in registers") +
+           expect(bare[i].stack <= CARD_WIPE_BYTES / 2, name, "more than half of what is wiped is used");
+}
+
+int main(void)
+{
+    uint64_t generator = SEED;
+    int faults = 0;
+
+    for (int round = 0; round < ROUNDS; round++) {
+        calls_choose(&generator);
+        if (expect(planted_is_found(), "the scan", "what was planted isn't found"))
+            return 1;
+        for (int i = 0; i < KEYED_CALLS; i++)
+            if (measure(&keyed_calls[i], call_alone, &bare[i]) || measure(&keyed_calls[i], call_and_wipe, &wiped[i]))
+                return 1;
+    }
+    print_table("after the call alone: bytes found", bare);
+    print_table("after the call and card_wipe_stack: bytes found", wiped);
+    for (int i = 0; i < KEYED_CALLS; i++)
+        faults += judge(i);
+    if (faults == 0)
+        printf("hygiene: %d rounds: all that is planted is found, and nothing is found after the wipe\n", ROUNDS);
+    return faults > 0;
+}
