@@ -44,7 +44,8 @@ static void bench_buffer(const struct face *face, struct made *m)
 
 static void traffic_table(const struct face *face, struct made *m)
 {
-    m->answer = face->traffic((struct card_slot *)vast, CUT + 32, 1, 1, m->iv, 10, m->buffer, 64, 0, 512, 0, m->numbers);
+    m->answer =
+        face->traffic((struct card_slot *)vast, CUT + 32, 1, 1, m->iv, 10, m->buffer, 64, 0, 512, 0, m->numbers);
 }
 
 static void traffic_iv(const struct face *face, struct made *m)

@@ -38,7 +38,8 @@ void registers_keep(void)
 {
     registers_keep_narrow();
     if (__builtin_cpu_supports("avx512f"))
-        __asm__ volatile(".irp n, " ALL_WIDE "vmovups %%zmm\\n, 64*\\n(%0)\n.endr" ::"r"(registers_kept.wide) : "memory");
+        __asm__ volatile(".irp n, " ALL_WIDE "vmovups %%zmm\\n, 64*\\n(%0)\n.endr" ::"r"(registers_kept.wide)
+                         : "memory");
 }
 
 void registers_clear(void)
