@@ -43,16 +43,29 @@ static void every_key_and_iv_length(void)
         make();
 }
 
-/* Buffers of every length, each asked for its last bit and for one more. */
-static void every_buffer_length(enum kind kind)
+/* Buffers of every length, each asked for its last bit and for the one after it. */
+static void every_traffic_buffer(void)
 {
-    begin(kind);
+    begin(TRAFFIC);
+    call.length = 1;
     for (size_t bytes = 0; bytes <= CARD_BUFFER_BYTES + 8; bytes++) {
         call.buffer.count = bytes;
-        call.length = 1;
         call.start = 8 * bytes - 1;
         make();
         call.start = 8 * bytes;
+        make();
+    }
+}
+
+/* Buffers of every length, each asked for its first bit and for one bit more than it has. */
+static void every_bench_buffer(void)
+{
+    begin(BENCH);
+    for (size_t bytes = 0; bytes <= CARD_BUFFER_BYTES + 8; bytes++) {
+        call.buffer.count = bytes;
+        call.length = 1;
+        make();
+        call.length = 8 * bytes + 1;
         make();
     }
 }
@@ -153,8 +166,8 @@ static void every_plan(void)
 unsigned long every_run(void)
 {
     every_key_and_iv_length();
-    every_buffer_length(TRAFFIC);
-    every_buffer_length(BENCH);
+    every_traffic_buffer();
+    every_bench_buffer();
     every_bench_length();
     every_shift();
     every_wrap();

@@ -1,6 +1,8 @@
-/* What the card's calls leave of keys on the stack and in registers, before and after card_wipe_stack. */
+/* What the card's calls leave of keys on the stack and in registers, before and after card_wipe_stack.
+   Usage: hygiene ROUNDS */
 
 #include <stdio.h>
+#include <stdlib.h>
 #include <string.h>
 
 #include "calls.h"
@@ -9,7 +11,7 @@
 #include "secrets.h"
 #include "stack.h"
 
-enum { ROUNDS = 200, SEED = 1 };
+enum { SEED = 1 };
 
 /* The most over all rounds: of the stack used, of its bytes that aren't zero, and of each secret found. */
 struct most {
@@ -146,12 +148,13 @@ static int judge(int i)
            expect(bare[i].stack <= CARD_WIPE_BYTES / 2, name, "more than half of what is wiped is used");
 }
 
-int main(void)
+int main(int count_of_words, char **words)
 {
+    int rounds = count_of_words == 2 ? atoi(words[1]) : 0;
     uint64_t generator = SEED;
-    int faults = 0;
+    int faults = expect(rounds > 0, "usage", "hygiene ROUNDS");
 
-    for (int round = 0; round < ROUNDS; round++) {
+    for (int round = 0; round < rounds; round++) {
         calls_choose(&generator);
         if (expect(planted_is_found(), "the scan", "what was planted isn't found"))
             return 1;
@@ -164,6 +167,6 @@ int main(void)
     for (int i = 0; i < KEYED_CALLS; i++)
         faults += judge(i);
     if (faults == 0)
-        printf("hygiene: %d rounds: all that is planted is found, and nothing is found after the wipe\n", ROUNDS);
+        printf("hygiene: %d rounds: all that is planted is found, and nothing is found after the wipe\n", rounds);
     return faults > 0;
 }
