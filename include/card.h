@@ -12,6 +12,7 @@
  *   - A pointer is not null, also where its length is 0, and so many bytes, slots or numbers stand there.
  *   - What a call writes to does not overlap with anything else that the same call is lent.
  *   - No other thread uses what a call writes to while it runs.
+ *   - A call leaves copies of keys on the stack below it. Where that matters, card_wipe.h has what wipes them.
  */
 
 #ifndef CARD_H

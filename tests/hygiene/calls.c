@@ -74,15 +74,15 @@ static uint8_t make_refused(void)
 }
 
 const struct keyed_call keyed_calls[KEYED_CALLS] = {
-    {"card_load", make_load, CARD_DONE},
-    {"card_move", make_move, CARD_DONE},
-    {"card_clear", make_clear, CARD_DONE},
-    {"card_read", make_read, CARD_DONE},
-    {"card_traffic", make_traffic, CARD_DONE},
-    {"  refused", make_refused, CARD_SLOT_NUMBER},
-    {"card_bench", make_bench, CARD_DONE},
-    {"card_record_read", make_record_read, CARD_DONE},
-    {"card_record_write", make_record_write, CARD_DONE},
+    {"card_load", make_load, CARD_DONE, 1},
+    {"card_move", make_move, CARD_DONE, 1},
+    {"card_clear", make_clear, CARD_DONE, 1},
+    {"card_read", make_read, CARD_DONE, 1},
+    {"card_traffic", make_traffic, CARD_DONE, 1},
+    {"  refused", make_refused, CARD_SLOT_NUMBER, 1},
+    {"card_bench", make_bench, CARD_DONE, 1},
+    {"card_record_read", make_record_read, CARD_DONE, 1},
+    {"card_record_write", make_record_write, CARD_DONE, 0},
 };
 
 /* All slots are filled but the target. */

@@ -9,6 +9,7 @@ struct keyed_call {
     const char *name;
     uint8_t (*make)(void);
     uint8_t answer; /* what it must answer */
+    int leaves;     /* whether it leaves a secret on the stack; else at most in registers, by the C library's memcpy */
 };
 
 enum { KEYED_CALLS = 9 };

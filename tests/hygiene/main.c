@@ -140,9 +140,9 @@ static int expect(int holds, const char *name, const char *fault)
 static int judge(int i)
 {
     const char *name = keyed_calls[i].name;
-    size_t before = sum(&bare[i].on_stack) + sum(&bare[i].in_registers);
+    size_t before = sum(&bare[i].on_stack);
 
-    return expect(before > 0, name, "nothing is found before the wipe: is it looked for?") +
+    return expect(before > 0 || !keyed_calls[i].leaves, name, "nothing is found before the wipe: is it looked for?") +
            expect(sum(&wiped[i].on_stack) == 0, name, "the wipe leaves something on the stack") +
            expect(sum(&wiped[i].in_registers) == 0 || !REGISTERS_SEEN, name, "the wipe leaves something in registers") +
            expect(bare[i].stack <= CARD_WIPE_BYTES / 2, name, "more than half of what is wiped is used");
