@@ -42,7 +42,7 @@ digits-ten (suc n) h =
     rw (le-ltb (suc n) 10 h)
     (ap (λ (t : List ℕ). t ++ ((48 + suc n % 10) ∷ [])) (enough n (suc n / 10) (suc n / 10) (omega arith) (omega arith)))
 
-digits-more : (n d : ℕ) → 0 < n → d < 10 → digits (n * 10 + d) ≡ digits n ++ ((48 + d) ∷ [])
+pub digits-more : (n d : ℕ) → 0 < n → d < 10 → digits (n * 10 + d) ≡ digits n ++ ((48 + d) ∷ [])
 digits-more n d h g =
     let q : (n * 10 + d) / 10 ≡ n = omega arith in
     let m : (n * 10 + d) % 10 ≡ d = omega arith in

@@ -62,7 +62,7 @@ module _ (c v : ℕ) (e : v ≡ hexOr c) where
       go true i k = (i, k)
       go false i k = absurd (z k)
 
-digit-of-value : (c : ℕ) → isHex c ≡ true → hexDigit (hexValue c) ≡ c
+pub digit-of-value : (c : ℕ) → isHex c ≡ true → hexDigit (hexValue c) ≡ c
 unfolding isHex hexValue hexDigit
 digit-of-value c e =
     eqb-true (hexDigit (hexValue c)) c
