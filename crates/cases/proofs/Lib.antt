@@ -3,3 +3,4 @@ pub mod Digits
 pub mod Hexes
 pub mod Passed
 pub mod Texts
+pub mod Promises

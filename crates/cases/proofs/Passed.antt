@@ -1,4 +1,4 @@
--- What holds of a line whose case is accepted. Assumes nothing.
+-- What holds of a line that is readable, and of one whose case is accepted. Assumes nothing.
 use mathlib.Core.Bool.{true, not, _&&_}
 use mathlib.Core.List.{List}
 use mathlib.Core.Path.{_≡_, sym, _∙_}
@@ -32,25 +32,27 @@ case-passed c e =
       span = span-passed (length (c .buffer)) (c .start) (c .bits) (c .skip) (three .1);
     }
 
-module _ {line : List ℕ} (a : Accepted line) where
-  pub passed : CasePassed (caseOf line)
-  passed = case-passed (caseOf line) (a .passed)
-
+-- a readable line's bytes are bytes
+module _ (line : List ℕ) (e : isReadable line ≡ true) where
   past-numbers : areBytes (part 1 line) && (areBytes (part 2 line) && areBytes (lastPart line)) ≡ true
   unfolding isReadable
-  past-numbers = and-right (numbersReadable line) _ (a .readable)
+  past-numbers = and-right (numbersReadable line) _ e
 
-  pub key-bytes : areBytes (part 1 line) ≡ true
-  key-bytes = and-left (areBytes (part 1 line)) _ past-numbers
+  pub key-readable : areBytes (part 1 line) ≡ true
+  key-readable = and-left (areBytes (part 1 line)) _ past-numbers
 
   past-key : areBytes (part 2 line) && areBytes (lastPart line) ≡ true
   past-key = and-right (areBytes (part 1 line)) _ past-numbers
 
-  pub iv-bytes : areBytes (part 2 line) ≡ true
-  iv-bytes = and-left (areBytes (part 2 line)) _ past-key
+  pub iv-readable : areBytes (part 2 line) ≡ true
+  iv-readable = and-left (areBytes (part 2 line)) _ past-key
 
-  pub buffer-bytes : areBytes (lastPart line) ≡ true
-  buffer-bytes = and-right (areBytes (part 2 line)) _ past-key
+  pub buffer-readable : areBytes (lastPart line) ≡ true
+  buffer-readable = and-right (areBytes (part 2 line)) _ past-key
+
+module _ {line : List ℕ} (a : Accepted line) where
+  pub passed : CasePassed (caseOf line)
+  passed = case-passed (caseOf line) (a .passed)
 
   pub key-size : 24 ≡ length (part 1 line) / 2
   unfolding caseOf

@@ -1,16 +1,16 @@
 -- The laws of pieces: where a byte first stands, and what follows it. Assumes nothing.
 use mathlib.Core.Path.{_≡_, refl, sym, ap, _∙_}
 use mathlib.Core.Bool.{Bool, true, false}
-use mathlib.Core.List.{List, [], _∷_}
-use Prim.Native.Nat.{ℕ, suc, _+_, _-_, _<_, _≤_}
+use mathlib.Core.List.{List, [], _∷_, _++_}
+use Prim.Native.Nat.{ℕ, zero, suc, _+_, _-_, _<_, _≤_}
 use native.Mathlib.Numerals.{add-one}
 use native.Mathlib.Omega.{arith}
 use lib.Dec.{eqb}
-use lib.ListN.{length, getD, take, drop, drop-of-length-le, length-drop}
-use lib.Seq.{drop-cons, drop-drop, take-all}
-use borrow.Author.Tests.{eq-eqb, ne-eqb, eqb-false}
+use lib.ListN.{length, getD, take, drop, drop-of-length-le, length-append, length-drop}
+use lib.Seq.{drop-cons, drop-drop, take-all, split-at}
+use borrow.Author.Tests.{eq-eqb, ne-eqb, eqb-true, eqb-false}
 use Rattle.laws.specs.Choice.{pick}
-use Rattle.cases.specs.Line.{indexOf, pieceLength, afterSpaces, space}
+use Rattle.cases.specs.Line.{space, indexOf, upTo, pieceLength, afterSpaces, part}
 
 -- the search from the place i on
 module _ (b : ℕ) (s : List ℕ) (i : ℕ) where
@@ -82,3 +82,35 @@ unfolding afterSpaces
 step-all line k i at h =
     let z : k - i ≡ 0 = omega arith in
     ap (λ (m : ℕ). afterSpaces m (drop at line)) z ∙ sym (rest-is line at)
+
+-- where there is one, the byte stands at its place
+index-hit : (b : ℕ) (s : List ℕ) → indexOf b s < length s → getD s (indexOf b s) 0 ≡ b
+unfolding indexOf
+index-hit b [] h = absurd (omega arith)
+index-hit b (x ∷ s) h = go (eqb x b) refl h (index-hit b s)
+  where
+    go : (t : Bool) → eqb x b ≡ t → pick t 0 (suc (indexOf b s)) < suc (length s) → (indexOf b s < length s → getD s (indexOf b s) 0 ≡ b)
+        → getD (x ∷ s) (pick t 0 (suc (indexOf b s))) 0 ≡ b
+    go true e l rec = eqb-true x b e
+    go false e l rec = rec (omega arith)
+
+-- what something follows is cut at a space
+cut : (s : List ℕ) → 0 < length (drop (pieceLength space s) s) → s ≡ upTo space s ++ (space ∷ drop (pieceLength space s) s)
+unfolding pieceLength
+cut s h = go (eqb (indexOf space s) (length s)) refl h
+  where
+    go : (t : Bool) → eqb (indexOf space s) (length s) ≡ t → 0 < length (drop (pick t (length s) (suc (indexOf space s))) s)
+        → s ≡ take (indexOf space s) s ++ (space ∷ drop (pick t (length s) (suc (indexOf space s))) s)
+    go true e l = absurd (omega (arith, length-drop (length s) s))
+    go false e l =
+        let n : indexOf space s < length s = omega (arith, index-within space s, eqb-false (indexOf space s) (length s) e) in
+        split-at s (indexOf space s) 0 n
+        ∙ ap (λ (x : ℕ). take (indexOf space s) s ++ (x ∷ drop (suc (indexOf space s)) s)) (index-hit space s n)
+
+pub cut-at : (k : ℕ) (line : List ℕ) → 0 < length (afterSpaces (suc k) line) → afterSpaces k line ≡ part k line ++ (space ∷ afterSpaces (suc k) line)
+unfolding afterSpaces part
+cut-at zero line h = cut line h
+cut-at (suc k) line h = cut-at k (drop (pieceLength space line) line) h
+
+pub some-before : (k : ℕ) (line : List ℕ) → 0 < length (afterSpaces (suc k) line) → 0 < length (afterSpaces k line)
+some-before k line h = omega (arith, ap length (cut-at k line h), length-append (part k line) (space ∷ afterSpaces (suc k) line))

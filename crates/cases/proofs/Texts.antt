@@ -1,8 +1,8 @@
 -- Which text answers a line, and how long it is. Assumes nothing.
 use mathlib.Core.Bool.{true, false}
 use mathlib.Core.List.{List, [], _∷_, _++_}
-use mathlib.Core.Path.{_≡_, ap, _∙_}
-use Prim.Native.Nat.{ℕ, _+_, _*_, _≤_}
+use mathlib.Core.Path.{_≡_}
+use Prim.Native.Nat.{ℕ, _+_, _≤_}
 use native.Mathlib.Omega.{arith}
 use lib.ListN.{length, length-append}
 use borrow.Author.Tests.{eq-eqb, ne-eqb}
@@ -41,10 +41,10 @@ module _ (s : List ℕ) where
   unfolding answerText
   text-line n = rw (ne-eqb (indexOf lf s) (length s) n)
 
-value-length : (l : List ℕ) → length l ≡ 24 → length (valueText l) ≡ 49
+pub value-length : (l : List ℕ) → length l ≡ 24 → length (valueText l) ≡ 49
 value-length l e = omega (arith, length-append (hexText l) (space ∷ []), length-hex l)
 
-mode-length : (algorithm : ℕ) (key iv : List ℕ) → length (modeText algorithm key iv) ≡ 147
+pub mode-length : (algorithm : ℕ) (key iv : List ℕ) → length (modeText algorithm key iv) ≡ 147
 unfolding modeText mixedValue modeOf modeBy modeKey modeValue
 mode-length algorithm key iv =
     let mixed = mixedValue iv in
@@ -63,20 +63,19 @@ ciphered-length : (c : Case) → length (ciphered c) ≡ length (c .buffer)
 unfolding ciphered
 ciphered-length c = length-xored (c .buffer) _ (c .start) (c .skip) (c .bits)
 
--- an accepted case's answer fits
-pub accepted-fits : {line : List ℕ} → Accepted line → length (acceptedText (caseOf line)) ≤ room
-unfolding acceptedText
-accepted-fits {line} a =
-    let c = caseOf line in
-    omega (
-      arith,
-      length-append (modeText (c .algorithm) (c .key) (c .iv)) (bufferText c),
-      mode-length (c .algorithm) (c .key) (c .iv),
-      length-append (hexText (ciphered c)) (lf ∷ []),
-      length-hex (ciphered c),
-      ciphered-length c,
-      passed a .span .small,
-    )
+-- an accepted case's answer fits: the buffer after three values, and so the whole
+module _ {line : List ℕ} (a : Accepted line) where
+  pub buffer-fits : 147 + length (bufferText (caseOf line)) ≤ room
+  buffer-fits =
+      let text = ciphered (caseOf line) in
+      omega (arith, length-append (hexText text) (lf ∷ []), length-hex text, ciphered-length (caseOf line), passed a .span .small)
+
+  pub accepted-fits : length (acceptedText (caseOf line)) ≤ room
+  unfolding acceptedText
+  accepted-fits =
+      let c = caseOf line in
+      let mode = modeText (c .algorithm) (c .key) (c .iv) in
+      omega (arith, length-append mode (bufferText c), mode-length (c .algorithm) (c .key) (c .iv), buffer-fits)
 
 -- a refusal is a byte
 pub refused-fits : (refusal : ℕ) → refusal ≤ 255 → length (refusedText refusal) ≤ room

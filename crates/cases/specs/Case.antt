@@ -1,14 +1,16 @@
--- A case of the program `vectors`, by its line: algorithm, key, initial value, start, length, skip and buffer. Assumes nothing: these are definitions.
+-- A case of the program `vectors`, by its line: algorithm, key, initial value, start, length, skip and buffer. That a readable line is the line
+-- of its case, and of no other, is stated in proofs/Promises.antt. Assumes nothing: these are definitions.
 use mathlib.Core.Bool.{Bool, true, not, _&&_}
-use mathlib.Core.List.{List}
+use mathlib.Core.List.{List, _∷_, _++_}
 use mathlib.Core.Path.{_≡_}
 use Prim.Native.Nat.{ℕ}
 use lib.Dec.{eqb}
 use lib.ListN.{length}
 use Rattle.refusals.specs.Numbers.{done, algorithmUnknown, benchKeyNot24, ivNot10, refuse}
 use Rattle.fields.specs.Fields.{isAlgorithm}
+use Rattle.records.specs.Text.{digits, hexText}
 use Rattle.card.specs.Span.{spanRefusal}
-use Rattle.cases.specs.Line.{afterSpaces, part}
+use Rattle.cases.specs.Line.{space, afterSpaces, part}
 use Rattle.cases.specs.Parts.{numberOf, areBytes, bytesOf}
 
 pub record Case : Type 0 where
@@ -19,6 +21,21 @@ pub record Case : Type 0 where
   pub bits : ℕ
   pub skip : ℕ
   pub buffer : List ℕ
+
+-- a part, a space, and the parts after it
+abbrev pub joined : List ℕ → List ℕ → List ℕ
+joined text rest = text ++ (space ∷ rest)
+
+-- the line of a case
+unfoldable pub lineOf : Case → List ℕ
+lineOf c =
+    joined (digits (c .algorithm))
+    (joined (hexText (c .key))
+    (joined (hexText (c .iv))
+    (joined (digits (c .start))
+    (joined (digits (c .bits))
+    (joined (digits (c .skip))
+    (hexText (c .buffer)))))))
 
 -- the last part: what follows six spaces
 abbrev pub lastPart : List ℕ → List ℕ

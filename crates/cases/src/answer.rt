@@ -10,7 +10,7 @@ use records::writing::put_hex;
 use tea::mixing::mixed_value;
 use tea::mode::mode_of;
 ghost use mathlib.Core.Path.{_≡_};
-ghost use Prim.Native.Nat.{_≤_, _/_};
+ghost use Prim.Native.Nat.{_+_, _≤_, _/_};
 ghost use lib.ListN.{length};
 ghost use Rattle.records.specs.Writing.{Room, Put};
 ghost use Rattle.cases.specs.Case.{lastPart, caseOf, Accepted};
@@ -18,8 +18,8 @@ ghost use Rattle.cases.specs.Answer.{valueText, modeText, ciphered, buff
 
 // A value of 24 bytes and a space.
 fn put_value(out: &mut [u8], at: usize, bytes: [u8; 24]) -> usize
-    requires { ⌜ Room (now out) at (valueText bytes) ⌝ }
-    ensures { λ r. ⌜ Put (now (out .entry)) at (valueText bytes) (now (out .exit)) r ⌝ }
+    requires { ⌜ at + 49 ≤ length (now out) ⌝ }
+    ensures { λ r. ⌜ (r ≡ at + 49) × Put (now (out .entry)) at (valueText bytes) (now (out .exit)) r ⌝ }
 {
     let end = put_hex(out, at, &bytes);
     put_bytes(out, end, b" ")
@@ -27,7 +27,7 @@ fn put_value(out: &mut [u8], at: usize, bytes: [u8; 24]) -> usize
 
 // Mixed value, mode key and mode value.
 fn put_mode(out: &mut [u8], at: usize, algorithm: u64, ck: [u8; 24], iv: [u8; 10]) -> usize
-    requires { ⌜ Room (now out) at (modeText algorithm ck iv) ⌝ }
+    requires { ⌜ at + 147 ≤ length (now out) ⌝ }
     ensures { λ r. ⌜ Put (now (out .entry)) at (modeText algorithm ck iv) (now (out .exit)) r ⌝ }
 {
     let mixed = mixed_value(iv);

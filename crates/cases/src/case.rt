@@ -9,7 +9,7 @@ ghost use mathlib.Core.Path.{_≡_};
 ghost use Prim.Native.Nat.{_/_};
 ghost use lib.ListN.{length};
 ghost use Rattle.cases.specs.Line.{part};
-ghost use Rattle.cases.specs.Parts.{numberOf, areBytes};
+ghost use Rattle.cases.specs.Parts.{numberOf};
 ghost use Rattle.cases.specs.Case.{isNumber, lastPart, numbersReadable, isReadable, caseOf, refusalOf, Accepted};
 
 fn is_number(line: &[u8], k: usize) -> bool

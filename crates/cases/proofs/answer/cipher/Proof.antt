@@ -10,7 +10,7 @@ use Rattle.keystream.specs.Stream.{keystream}
 use Rattle.cases.specs.Parts.{areBytes, bytesOf}
 use Rattle.cases.specs.Case.{caseOf}
 use Rattle.cases.specs.Answer.{ciphered}
-use Rattle.cases.proofs.Passed.{passed, buffer-bytes}
+use Rattle.cases.proofs.Passed.{passed, buffer-readable}
 use Rattle.cases.proofs.answer.cipher.Statement.{statement}
 use Rattle.cases.proofs.answer.cipher.Tie as tie
 
@@ -18,7 +18,7 @@ read-bytes-requires : tie.Need-read-bytes-requires
 read-bytes-requires c κs =
     let e = c .before .after-spaces .ensures in
     let pre = c .before .before .before .before .before .before .before .before .before .before .pre in
-    (ap areBytes e ∙ buffer-bytes (pre .0), pre .1 ∙ sym (ap (λ (l : List ℕ). length l / 2) e))
+    (ap areBytes e ∙ buffer-readable _ (pre .0 .readable), pre .1 ∙ sym (ap (λ (l : List ℕ). length l / 2) e))
 
 -- the buffer holds the bytes of the case
 read : (c : tie.After-read-bytes) → c .read-bytes .last .1 .0 ≡ caseOf (c .before .before .before .before .before .before .before .before .before .before .before .args .line .now) .buffer

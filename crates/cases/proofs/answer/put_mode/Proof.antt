@@ -1,38 +1,35 @@
 -- `answer::put_mode`: three values, one after the other. Assumes nothing.
 use mathlib.Core.List.{_++_}
-use mathlib.Core.Path.{_≡_, sym}
+use mathlib.Core.Path.{_≡_}
+use native.Mathlib.Omega.{arith}
 use borrow.Author.Needs.{needs}
-use Rattle.records.specs.Writing.{Room}
-use Rattle.records.proofs.Puts.{put-then, put-length, put-as, room-first, room-then, room-as}
+use Rattle.records.proofs.Puts.{put-then, put-length, put-as}
 use Rattle.cases.specs.Answer.{valueText, modeText}
 use Rattle.cases.proofs.answer.put_mode.Statement.{statement}
 use Rattle.cases.proofs.answer.put_mode.Tie as tie
 
--- the three values are those of the definition
-made : (c : tie.After-mode-of) → modeText (c .before .before .before .args .algorithm) (c .before .before .before .args .ck) (c .before .before .before .args .iv)
-    ≡ valueText (c .before .mixed-value .result) ++ (valueText (c .mode-of .result .key) ++ valueText (c .mode-of .result .value))
-unfolding modeText
-made c =
-    let mode = sym (c .mode-of .ensures) in
-    λ i. valueText (sym (c .before .mixed-value .ensures) i) ++ (valueText (mode i .key) ++ valueText (mode i .value))
-
-put-value-requires : tie.Need-put-value-requires
-put-value-requires c κs = let mode = c .before .before .before in room-first _ (room-as (made mode) (mode .before .before .before .pre))
-
 put-value-requires-2 : tie.Need-put-value-requires-2
-put-value-requires-2 c κs =
-    let mode = c .before .before .before .before .before .before .before in
-    room-first _ (room-then (c .before .before .before .put-value .ensures) (room-as (made mode) (mode .before .before .before .pre)))
+put-value-requires-2 c κs = let first = c .before .before .before .put-value .ensures in omega (arith, first .0, put-length (first .1), c .before .before .before .before .before .before .before .before .before .before .pre)
 
 put-value-requires-3 : tie.Need-put-value-requires-3
 put-value-requires-3 c κs =
-    let mode = c .before .before .before .before .before .before .before .before .before .before .before in
-    room-then (c .before .before .before .put-value2 .ensures) (room-then (c .before .before .before .before .before .before .before .put-value .ensures) (room-as (made mode) (mode .before .before .before .pre)))
+    let first = c .before .before .before .before .before .before .before .put-value .ensures in
+    let second = c .before .before .before .put-value2 .ensures in
+    omega (arith, first .0, second .0, put-length (first .1), put-length (second .1), c .before .before .before .before .before .before .before .before .before .before .before .before .before .before .pre)
+
+-- the three values are those of the definition
+made : (c : tie.After-mode-of)
+    → valueText (c .before .mixed-value .result) ++ (valueText (c .mode-of .result .key) ++ valueText (c .mode-of .result .value))
+    ≡ modeText (c .before .before .before .args .algorithm) (c .before .before .before .args .ck) (c .before .before .before .args .iv)
+unfolding modeText
+made c =
+    let mode = c .mode-of .ensures in
+    λ i. valueText (c .before .mixed-value .ensures i) ++ (valueText (mode i .key) ++ valueText (mode i .value))
 
 returns : tie.Need-returns
 returns c =
-    put-as (sym (made (c .before .before .before .before .before .before .before .before .before .before .before .before .before .before)))
-    (put-then (c .before .before .before .before .before .before .before .before .before .before .put-value .ensures) (put-then (c .before .before .before .before .before .before .put-value2 .ensures) (c .before .before .put-value3 .ensures)))
+    put-as (made (c .before .before .before .before .before .before .before .before .before .before .before .before .before .before))
+    (put-then (c .before .before .before .before .before .before .before .before .before .before .put-value .ensures .1) (put-then (c .before .before .before .before .before .before .put-value2 .ensures .1) (c .before .before .put-value3 .ensures .1)))
 
 pub put-mode-spec : {M : Type 1} → statement M
 put-mode-spec =
@@ -40,8 +37,8 @@ put-mode-spec =
     (tie.spec
     (λ c κs. search needs)
     (λ c κs. search needs)
-    put-value-requires
+    (λ c κs. search needs)
     put-value-requires-2
     put-value-requires-3
-    (λ c. put-length (returns c))
+    (λ c. search needs)
     returns)

@@ -1,5 +1,4 @@
 -- `bytes::read_bytes`: the buffer is filled from the front. Assumes nothing.
-use mathlib.Core.Path.{_≡_, sym, _∙_}
 use Prim.Native.Nat.{_<_, _-_, _+_, _*_, _/_}
 use native.Mathlib.Omega.{arith}
 use lib.ListN.{length, getD}

@@ -6,7 +6,7 @@ use lib.ListN.{length}
 use borrow.Author.Needs.{needs}
 use Rattle.cases.specs.Parts.{areBytes, bytesOf}
 use Rattle.cases.specs.Case.{caseOf}
-use Rattle.cases.proofs.Passed.{key-bytes, key-size}
+use Rattle.cases.proofs.Passed.{key-readable, key-size}
 use Rattle.cases.proofs.case.key_of.Statement.{statement}
 use Rattle.cases.proofs.case.key_of.Tie as tie
 
@@ -14,7 +14,7 @@ read-bytes-requires : tie.Need-read-bytes-requires
 read-bytes-requires c κs =
     let e = c .before .part .ensures in
     let a = c .before .before .before .pre in
-    (ap areBytes e ∙ key-bytes a, key-size a ∙ sym (ap (λ (l : List ℕ). length l / 2) e))
+    (ap areBytes e ∙ key-readable _ (a .readable), key-size a ∙ sym (ap (λ (l : List ℕ). length l / 2) e))
 
 returns : tie.Need-returns
 unfolding caseOf

@@ -1,6 +1,6 @@
 -- `line::index_of`: where the byte stands stays the same with each byte passed. Assumes nothing.
 use mathlib.Core.Path.{_≡_}
-use Prim.Native.Nat.{_≤_, _-_, _+_}
+use Prim.Native.Nat.{_-_, _+_}
 use native.Mathlib.Omega.{arith}
 use lib.ListN.{length, drop}
 use borrow.Author.Needs.{needs}

@@ -1,0 +1,170 @@
+-- What reading a case promises: a readable line is the line of its case, so no two lines say the same case. Assumes nothing.
+use mathlib.Core.Path.{_≡_, refl, sym, ap, _∙_}
+use mathlib.Core.Logic.{⊎-elim}
+use mathlib.Core.Bool.{Bool, true, false, false≢true, not}
+use mathlib.Core.List.{List, [], _∷_, _++_, append-nil, append-assoc}
+use Prim.Native.Nat.{ℕ, zero, suc, _+_, _-_, _*_, _/_, _%_, _<_}
+use native.Mathlib.Omega.{arith}
+use lib.Dec.{eqb}
+use lib.ListN.{length, getD}
+use lib.Seq.{ext-getD}
+use borrow.Author.Tests.{eqb-false, not-true}
+use Rattle.laws.specs.Choice.{pick}
+use Rattle.laws.proofs.Cases.{and-left, and-right, eq-or-ne}
+use Rattle.laws.proofs.Lists.{tabulate-at}
+use Rattle.fields.proofs.Ranges.{between-low, between-high}
+use Rattle.records.specs.Text.{digits, hexDigit, hexText}
+use Rattle.records.specs.Decimals.{mayFollow}
+use Rattle.records.specs.Hexes.{hexValue}
+use Rattle.records.proofs.Decimals.{digits-one, digits-more, follow-is}
+use Rattle.records.proofs.Hexes.{value-small, digit-of-value}
+use Rattle.records.proofs.Puts.{length-hex}
+use Rattle.cases.specs.Line.{afterSpaces, part}
+use Rattle.cases.specs.Parts.{largest, noNumber, isDigit, numberAfter, numberOf, areBytes, bytesOf}
+use Rattle.cases.specs.Case.{joined, lineOf, lastPart, isNumber, numbersReadable, isReadable, caseOf}
+use Rattle.cases.proofs.Hexes.{even, digit-at, length-bytes}
+use Rattle.cases.proofs.Passed.{key-readable, iv-readable, buffer-readable}
+use Rattle.cases.proofs.Pieces.{cut-at, some-before}
+
+-- a number's text is its digits
+
+digits-after : (s : List ℕ) (n : ℕ) → numberAfter n s .good ≡ true → digits n ++ s ≡ digits (numberAfter n s .value)
+unfolding numberAfter
+digits-after [] n e = append-nil (digits n)
+digits-after (b ∷ s) n e = go (mayFollow largest n b) refl e (digits-after s (n * 10 + (b - 48)))
+  where
+    go : (t : Bool) → mayFollow largest n b ≡ t → pick t (numberAfter (n * 10 + (b - 48)) s) noNumber .good ≡ true
+        → (numberAfter (n * 10 + (b - 48)) s .good ≡ true → digits (n * 10 + (b - 48)) ++ s ≡ digits (numberAfter (n * 10 + (b - 48)) s .value))
+        → digits n ++ (b ∷ s) ≡ digits (pick t (numberAfter (n * 10 + (b - 48)) s) noNumber .value)
+    go false f g rec = absurd (false≢true g)
+    go true f g rec =
+        let k = follow-is largest n b f in
+        let c : 48 + (b - 48) ≡ b = omega arith in
+        let more : digits (n * 10 + (b - 48)) ≡ digits n ++ (b ∷ []) =
+        digits-more n (b - 48) (omega arith) (omega arith) ∙ ap (λ (x : ℕ). digits n ++ (x ∷ [])) c in
+        sym (append-assoc (digits n) (b ∷ []) s) ∙ ap (λ (l : List ℕ). l ++ s) (sym more) ∙ rec g
+
+number-text : (s : List ℕ) → numberOf s .good ≡ true → s ≡ digits (numberOf s .value)
+unfolding numberOf
+number-text [] e = absurd (false≢true e)
+number-text (b ∷ s) e = go (isDigit b) refl e
+  where
+    go : (t : Bool) → isDigit b ≡ t → pick t (numberAfter (b - 48) s) noNumber .good ≡ true
+        → b ∷ s ≡ digits (pick t (numberAfter (b - 48) s) noNumber .value)
+    go false f g = absurd (false≢true g)
+    go true f g =
+        let low = between-low 48 b 57 f in
+        let high = between-high 48 b 57 f in
+        let c : b ≡ 48 + (b - 48) = omega arith in
+        ap (λ (x : ℕ). x ∷ s) c ∙ ap (λ (l : List ℕ). l ++ s) (sym (digits-one (b - 48) (omega arith))) ∙ digits-after s (b - 48) g
+
+-- the text of bytes is their hex digits
+
+hex-first : (l : List ℕ) (i : ℕ) → i < length l → getD (hexText l) (2 * i) 0 ≡ hexDigit (getD l i 0 / 16)
+unfolding hexText
+hex-first [] i h = absurd (omega arith)
+hex-first (b ∷ l) zero h = refl
+hex-first (b ∷ l) (suc i) h =
+    let z : 2 * suc i ≡ suc (suc (2 * i)) = omega arith in
+    ap (λ (k : ℕ). getD (hexText (b ∷ l)) k 0) z ∙ hex-first l i (omega arith)
+
+hex-second : (l : List ℕ) (i : ℕ) → i < length l → getD (hexText l) (2 * i + 1) 0 ≡ hexDigit (getD l i 0 % 16)
+unfolding hexText
+hex-second [] i h = absurd (omega arith)
+hex-second (b ∷ l) zero h = refl
+hex-second (b ∷ l) (suc i) h =
+    let z : 2 * suc i + 1 ≡ suc (suc (2 * i + 1)) = omega arith in
+    ap (λ (k : ℕ). getD (hexText (b ∷ l)) k 0) z ∙ hex-second l i (omega arith)
+
+module _ (s : List ℕ) (e : areBytes s ≡ true) where
+  byte-is : (i : ℕ) → i < length s / 2 → getD (bytesOf s) i 0 ≡ hexValue (getD s (2 * i) 0) * 16 + hexValue (getD s (2 * i + 1) 0)
+  unfolding bytesOf
+  byte-is i h = tabulate-at _ 0 refl i h
+
+  first : (i : ℕ) → i < length s / 2 → getD (hexText (bytesOf s)) (2 * i) 0 ≡ getD s (2 * i) 0
+  first i h =
+      let d = digit-at s e (2 * i) (omega arith) in
+      let f = digit-at s e (2 * i + 1) (omega (arith, even s e)) in
+      let z : getD (bytesOf s) i 0 / 16 ≡ hexValue (getD s (2 * i) 0) = omega (arith, byte-is i h, value-small _ d, value-small _ f) in
+      hex-first (bytesOf s) i (omega (arith, length-bytes s)) ∙ ap hexDigit z ∙ digit-of-value (getD s (2 * i) 0) d
+
+  second : (i : ℕ) → i < length s / 2 → getD (hexText (bytesOf s)) (2 * i + 1) 0 ≡ getD s (2 * i + 1) 0
+  second i h =
+      let d = digit-at s e (2 * i) (omega arith) in
+      let f = digit-at s e (2 * i + 1) (omega (arith, even s e)) in
+      let z : getD (bytesOf s) i 0 % 16 ≡ hexValue (getD s (2 * i + 1) 0) = omega (arith, byte-is i h, value-small _ d, value-small _ f) in
+      hex-second (bytesOf s) i (omega (arith, length-bytes s)) ∙ ap hexDigit z ∙ digit-of-value (getD s (2 * i + 1) 0) f
+
+  long : length (hexText (bytesOf s)) ≡ length s
+  long = omega (arith, length-hex (bytesOf s), length-bytes s, even s e)
+
+  each : (k : ℕ) → k < length (hexText (bytesOf s)) → getD (hexText (bytesOf s)) k 0 ≡ getD s k 0
+  each k h =
+      let l : k / 2 < length s / 2 = omega (arith, long, even s e) in
+      ⊎-elim
+      (λ (q : k % 2 ≡ 0).
+      let z : k ≡ 2 * (k / 2) = omega arith in
+      ap (λ (j : ℕ). getD (hexText (bytesOf s)) j 0) z ∙ first (k / 2) l ∙ ap (λ (j : ℕ). getD s j 0) (sym z))
+      (λ (n : k % 2 ≡ 0 → ⊥).
+      let z : k ≡ 2 * (k / 2) + 1 = omega arith in
+      ap (λ (j : ℕ). getD (hexText (bytesOf s)) j 0) z ∙ second (k / 2) l ∙ ap (λ (j : ℕ). getD s j 0) (sym z))
+      (eq-or-ne (k % 2) 0)
+
+  bytes-text : s ≡ hexText (bytesOf s)
+  bytes-text = sym (ext-getD 0 (hexText (bytesOf s)) s long each)
+
+  some-bytes : 0 < length s
+  unfolding areBytes
+  some-bytes = omega (arith, eqb-false (length s) 0 (not-true (eqb (length s) 0) (and-left (not (eqb (length s) 0)) _ e)))
+
+-- seven parts, one space apart
+module _ (line : List ℕ) (some : 0 < length (lastPart line)) where
+  from-5 : 0 < length (afterSpaces 5 line)
+  from-5 = some-before 5 line some
+
+  from-4 : 0 < length (afterSpaces 4 line)
+  from-4 = some-before 4 line from-5
+
+  from-3 : 0 < length (afterSpaces 3 line)
+  from-3 = some-before 3 line from-4
+
+  from-2 : 0 < length (afterSpaces 2 line)
+  from-2 = some-before 2 line from-3
+
+  seven : line
+      ≡ joined (part 0 line)
+      (joined (part 1 line) (joined (part 2 line) (joined (part 3 line) (joined (part 4 line) (joined (part 5 line) (lastPart line))))))
+  unfolding afterSpaces
+  seven =
+      cut-at 0 line (some-before 1 line from-2)
+      ∙ ap (joined (part 0 line)) (cut-at 1 line from-2
+      ∙ ap (joined (part 1 line)) (cut-at 2 line from-3
+      ∙ ap (joined (part 2 line)) (cut-at 3 line from-4
+      ∙ ap (joined (part 3 line)) (cut-at 4 line from-5
+      ∙ ap (joined (part 4 line)) (cut-at 5 line some)))))
+
+-- a readable line is the line of its case
+pub line-is : (line : List ℕ) → isReadable line ≡ true → line ≡ lineOf (caseOf line)
+unfolding isReadable numbersReadable lineOf caseOf
+line-is line e =
+    let numbers = and-left (numbersReadable line) _ e in
+    let zero = and-left (isNumber 0 line) _ numbers in
+    let past-0 = and-right (isNumber 0 line) _ numbers in
+    let three = and-left (isNumber 3 line) _ past-0 in
+    let past-3 = and-right (isNumber 3 line) _ past-0 in
+    let four = and-left (isNumber 4 line) _ past-3 in
+    let five = and-right (isNumber 4 line) _ past-3 in
+    let last = buffer-readable line e in
+    seven line (some-bytes (lastPart line) last)
+    ∙ (λ i.
+    joined (number-text (part 0 line) zero i)
+    (joined (bytes-text (part 1 line) (key-readable line e) i)
+    (joined (bytes-text (part 2 line) (iv-readable line e) i)
+    (joined (number-text (part 3 line) three i)
+    (joined (number-text (part 4 line) four i)
+    (joined (number-text (part 5 line) five i)
+    (bytes-text (lastPart line) last i)))))))
+
+-- so two readable lines that say the same case are the same
+pub one-line : (s t : List ℕ) → isReadable s ≡ true → isReadable t ≡ true → caseOf s ≡ caseOf t → s ≡ t
+one-line s t e f h = line-is s e ∙ ap lineOf h ∙ sym (line-is t f)
