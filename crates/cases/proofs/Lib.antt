@@ -4,3 +4,4 @@ pub mod Hexes
 pub mod Passed
 pub mod Texts
 pub mod Promises
+pub mod GoodLines

@@ -1,16 +1,17 @@
--- What reading a case promises: a readable line is the line of its case, so no two lines say the same case. Assumes nothing.
+-- What reading a case promises: a readable line is the line of its case, which is good, so no two lines say the same case. That the line of each
+-- good case is readable, and says that case, is in GoodLines.antt. Assumes nothing.
 use mathlib.Core.Path.{_≡_, refl, sym, ap, _∙_}
 use mathlib.Core.Logic.{⊎-elim}
-use mathlib.Core.Bool.{Bool, true, false, false≢true, not}
+use mathlib.Core.Bool.{Bool, true, false, false≢true, not, _&&_}
 use mathlib.Core.List.{List, [], _∷_, _++_, append-nil, append-assoc}
-use Prim.Native.Nat.{ℕ, zero, suc, _+_, _-_, _*_, _/_, _%_, _<_}
+use Prim.Native.Nat.{ℕ, zero, suc, _+_, _-_, _*_, _/_, _%_, _<_, _≤_}
 use native.Mathlib.Omega.{arith}
 use lib.Dec.{eqb}
-use lib.ListN.{length, getD}
+use lib.ListN.{length, getD, List·getD-eq-default}
 use lib.Seq.{ext-getD}
 use borrow.Author.Tests.{eqb-false, not-true}
 use Rattle.laws.specs.Choice.{pick}
-use Rattle.laws.proofs.Cases.{and-left, and-right, eq-or-ne}
+use Rattle.laws.proofs.Cases.{lt-or-le, eq-or-ne, and-left, and-right}
 use Rattle.laws.proofs.Lists.{tabulate-at}
 use Rattle.fields.proofs.Ranges.{between-low, between-high}
 use Rattle.records.specs.Text.{digits, hexDigit, hexText}
@@ -21,46 +22,53 @@ use Rattle.records.proofs.Hexes.{value-small, digit-of-value}
 use Rattle.records.proofs.Puts.{length-hex}
 use Rattle.cases.specs.Line.{afterSpaces, part}
 use Rattle.cases.specs.Parts.{largest, noNumber, isDigit, numberAfter, numberOf, areBytes, bytesOf}
-use Rattle.cases.specs.Case.{joined, lineOf, lastPart, isNumber, numbersReadable, isReadable, caseOf}
+use Rattle.cases.specs.Case.{joined, lineOf, Narrow, Bytes, Good, lastPart, isNumber, numbersReadable, isReadable, caseOf}
 use Rattle.cases.proofs.Hexes.{even, digit-at, length-bytes}
 use Rattle.cases.proofs.Passed.{key-readable, iv-readable, buffer-readable}
 use Rattle.cases.proofs.Pieces.{cut-at, some-before}
 
 -- a number's text is its digits
 
-digits-after : (s : List ℕ) (n : ℕ) → numberAfter n s .good ≡ true → digits n ++ s ≡ digits (numberAfter n s .value)
+-- the bytes w spell the value v, and it is narrow
+abbrev Spelt : List ℕ → ℕ → Type 0
+Spelt w v = (w ≡ digits v) × Narrow v
+
+digits-after : (s : List ℕ) (n : ℕ) → Narrow n → numberAfter n s .good ≡ true → Spelt (digits n ++ s) (numberAfter n s .value)
 unfolding numberAfter
-digits-after [] n e = append-nil (digits n)
-digits-after (b ∷ s) n e = go (mayFollow largest n b) refl e (digits-after s (n * 10 + (b - 48)))
+digits-after [] n l e = (append-nil (digits n), l)
+digits-after (b ∷ s) n l e = go (mayFollow largest n b) refl e (digits-after s (n * 10 + (b - 48)))
   where
     go : (t : Bool) → mayFollow largest n b ≡ t → pick t (numberAfter (n * 10 + (b - 48)) s) noNumber .good ≡ true
-        → (numberAfter (n * 10 + (b - 48)) s .good ≡ true → digits (n * 10 + (b - 48)) ++ s ≡ digits (numberAfter (n * 10 + (b - 48)) s .value))
-        → digits n ++ (b ∷ s) ≡ digits (pick t (numberAfter (n * 10 + (b - 48)) s) noNumber .value)
+        → (Narrow (n * 10 + (b - 48)) → numberAfter (n * 10 + (b - 48)) s .good ≡ true
+        → Spelt (digits (n * 10 + (b - 48)) ++ s) (numberAfter (n * 10 + (b - 48)) s .value))
+        → Spelt (digits n ++ (b ∷ s)) (pick t (numberAfter (n * 10 + (b - 48)) s) noNumber .value)
     go false f g rec = absurd (false≢true g)
     go true f g rec =
         let k = follow-is largest n b f in
+        let r = rec (k .3) g in
         let c : 48 + (b - 48) ≡ b = omega arith in
         let more : digits (n * 10 + (b - 48)) ≡ digits n ++ (b ∷ []) =
         digits-more n (b - 48) (omega arith) (omega arith) ∙ ap (λ (x : ℕ). digits n ++ (x ∷ [])) c in
-        sym (append-assoc (digits n) (b ∷ []) s) ∙ ap (λ (l : List ℕ). l ++ s) (sym more) ∙ rec g
+        (sym (append-assoc (digits n) (b ∷ []) s) ∙ ap (λ (w : List ℕ). w ++ s) (sym more) ∙ r .0, r .1)
 
-number-text : (s : List ℕ) → numberOf s .good ≡ true → s ≡ digits (numberOf s .value)
+number-text : (s : List ℕ) → numberOf s .good ≡ true → Spelt s (numberOf s .value)
 unfolding numberOf
 number-text [] e = absurd (false≢true e)
 number-text (b ∷ s) e = go (isDigit b) refl e
   where
     go : (t : Bool) → isDigit b ≡ t → pick t (numberAfter (b - 48) s) noNumber .good ≡ true
-        → b ∷ s ≡ digits (pick t (numberAfter (b - 48) s) noNumber .value)
+        → Spelt (b ∷ s) (pick t (numberAfter (b - 48) s) noNumber .value)
     go false f g = absurd (false≢true g)
     go true f g =
         let low = between-low 48 b 57 f in
         let high = between-high 48 b 57 f in
         let c : b ≡ 48 + (b - 48) = omega arith in
-        ap (λ (x : ℕ). x ∷ s) c ∙ ap (λ (l : List ℕ). l ++ s) (sym (digits-one (b - 48) (omega arith))) ∙ digits-after s (b - 48) g
+        let r = digits-after s (b - 48) (omega arith) g in
+        (ap (λ (x : ℕ). x ∷ s) c ∙ ap (λ (w : List ℕ). w ++ s) (sym (digits-one (b - 48) (omega arith))) ∙ r .0, r .1)
 
 -- the text of bytes is their hex digits
 
-hex-first : (l : List ℕ) (i : ℕ) → i < length l → getD (hexText l) (2 * i) 0 ≡ hexDigit (getD l i 0 / 16)
+pub hex-first : (l : List ℕ) (i : ℕ) → i < length l → getD (hexText l) (2 * i) 0 ≡ hexDigit (getD l i 0 / 16)
 unfolding hexText
 hex-first [] i h = absurd (omega arith)
 hex-first (b ∷ l) zero h = refl
@@ -68,7 +76,7 @@ hex-first (b ∷ l) (suc i) h =
     let z : 2 * suc i ≡ suc (suc (2 * i)) = omega arith in
     ap (λ (k : ℕ). getD (hexText (b ∷ l)) k 0) z ∙ hex-first l i (omega arith)
 
-hex-second : (l : List ℕ) (i : ℕ) → i < length l → getD (hexText l) (2 * i + 1) 0 ≡ hexDigit (getD l i 0 % 16)
+pub hex-second : (l : List ℕ) (i : ℕ) → i < length l → getD (hexText l) (2 * i + 1) 0 ≡ hexDigit (getD l i 0 % 16)
 unfolding hexText
 hex-second [] i h = absurd (omega arith)
 hex-second (b ∷ l) zero h = refl
@@ -117,6 +125,21 @@ module _ (s : List ℕ) (e : areBytes s ≡ true) where
   unfolding areBytes
   some-bytes = omega (arith, eqb-false (length s) 0 (not-true (eqb (length s) 0) (and-left (not (eqb (length s) 0)) _ e)))
 
+  bytes-small : Bytes (bytesOf s)
+  bytes-small = (
+    omega (arith, some-bytes, even s e, length-bytes s),
+    λ i. ⊎-elim
+        (λ (h : i < length s / 2).
+        omega (
+          arith,
+          byte-is i h,
+          value-small _ (digit-at s e (2 * i) (omega arith)),
+          value-small _ (digit-at s e (2 * i + 1) (omega (arith, even s e))),
+        ))
+        (λ (h : length s / 2 ≤ i). let z : getD (bytesOf s) i 0 ≡ 0 = List·getD-eq-default (bytesOf s) 0 (omega (arith, length-bytes s)) in omega arith)
+        (lt-or-le i (length s / 2)),
+  )
+
 -- seven parts, one space apart
 module _ (line : List ℕ) (some : 0 < length (lastPart line)) where
   from-5 : 0 < length (afterSpaces 5 line)
@@ -143,27 +166,57 @@ module _ (line : List ℕ) (some : 0 < length (lastPart line)) where
       ∙ ap (joined (part 3 line)) (cut-at 4 line from-5
       ∙ ap (joined (part 4 line)) (cut-at 5 line some)))))
 
--- a readable line is the line of its case
-pub line-is : (line : List ℕ) → isReadable line ≡ true → line ≡ lineOf (caseOf line)
-unfolding isReadable numbersReadable lineOf caseOf
-line-is line e =
-    let numbers = and-left (numbersReadable line) _ e in
-    let zero = and-left (isNumber 0 line) _ numbers in
-    let past-0 = and-right (isNumber 0 line) _ numbers in
-    let three = and-left (isNumber 3 line) _ past-0 in
-    let past-3 = and-right (isNumber 3 line) _ past-0 in
-    let four = and-left (isNumber 4 line) _ past-3 in
-    let five = and-right (isNumber 4 line) _ past-3 in
-    let last = buffer-readable line e in
-    seven line (some-bytes (lastPart line) last)
-    ∙ (λ i.
-    joined (number-text (part 0 line) zero i)
-    (joined (bytes-text (part 1 line) (key-readable line e) i)
-    (joined (bytes-text (part 2 line) (iv-readable line e) i)
-    (joined (number-text (part 3 line) three i)
-    (joined (number-text (part 4 line) four i)
-    (joined (number-text (part 5 line) five i)
-    (bytes-text (lastPart line) last i)))))))
+-- a readable line's numbers are numbers
+module _ (line : List ℕ) (e : isReadable line ≡ true) where
+  numbers : isNumber 0 line && (isNumber 3 line && (isNumber 4 line && isNumber 5 line)) ≡ true
+  unfolding isReadable numbersReadable
+  numbers = and-left (numbersReadable line) _ e
+
+  number-0 : Spelt (part 0 line) (numberOf (part 0 line) .value)
+  number-0 = number-text (part 0 line) (and-left (isNumber 0 line) _ numbers)
+
+  past-0 : isNumber 3 line && (isNumber 4 line && isNumber 5 line) ≡ true
+  past-0 = and-right (isNumber 0 line) _ numbers
+
+  number-3 : Spelt (part 3 line) (numberOf (part 3 line) .value)
+  number-3 = number-text (part 3 line) (and-left (isNumber 3 line) _ past-0)
+
+  past-3 : isNumber 4 line && isNumber 5 line ≡ true
+  past-3 = and-right (isNumber 3 line) _ past-0
+
+  number-4 : Spelt (part 4 line) (numberOf (part 4 line) .value)
+  number-4 = number-text (part 4 line) (and-left (isNumber 4 line) _ past-3)
+
+  number-5 : Spelt (part 5 line) (numberOf (part 5 line) .value)
+  number-5 = number-text (part 5 line) (and-right (isNumber 4 line) _ past-3)
+
+  -- it is the line of its case
+  pub line-is : line ≡ lineOf (caseOf line)
+  unfolding lineOf caseOf
+  line-is =
+      seven line (some-bytes (lastPart line) (buffer-readable line e))
+      ∙ (λ i.
+      joined (number-0 .0 i)
+      (joined (bytes-text (part 1 line) (key-readable line e) i)
+      (joined (bytes-text (part 2 line) (iv-readable line e) i)
+      (joined (number-3 .0 i)
+      (joined (number-4 .0 i)
+      (joined (number-5 .0 i)
+      (bytes-text (lastPart line) (buffer-readable line e) i)))))))
+
+  -- and the case is good
+  pub case-good : Good (caseOf line)
+  unfolding caseOf
+  case-good =
+      record {
+        algorithm = number-0 .1;
+        key = bytes-small (part 1 line) (key-readable line e);
+        iv = bytes-small (part 2 line) (iv-readable line e);
+        start = number-3 .1;
+        bits = number-4 .1;
+        skip = number-5 .1;
+        buffer = bytes-small (lastPart line) (buffer-readable line e);
+      }
 
 -- so two readable lines that say the same case are the same
 pub one-line : (s t : List ℕ) → isReadable s ≡ true → isReadable t ≡ true → caseOf s ≡ caseOf t → s ≡ t

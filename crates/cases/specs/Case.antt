@@ -1,18 +1,20 @@
--- A case of the program `vectors`, by its line: algorithm, key, initial value, start, length, skip and buffer. That a readable line is the line
--- of its case, and of no other, is stated in proofs/Promises.antt. Assumes nothing: these are definitions.
+-- A case of the program `vectors`, by its line: algorithm, key, initial value, start, length, skip and buffer. That the readable lines are
+-- those of the good cases, one for each, is stated in proofs/Promises.antt and proofs/GoodLines.antt.
+-- Assumes nothing: these are definitions.
 use mathlib.Core.Bool.{Bool, true, not, _&&_}
 use mathlib.Core.List.{List, _∷_, _++_}
 use mathlib.Core.Path.{_≡_}
-use Prim.Native.Nat.{ℕ}
+use Prim.Native.Nat.{ℕ, _<_, _≤_}
 use lib.Dec.{eqb}
-use lib.ListN.{length}
+use lib.ListN.{length, getD}
 use Rattle.refusals.specs.Numbers.{done, algorithmUnknown, benchKeyNot24, ivNot10, refuse}
 use Rattle.fields.specs.Fields.{isAlgorithm}
 use Rattle.records.specs.Text.{digits, hexText}
 use Rattle.card.specs.Span.{spanRefusal}
 use Rattle.cases.specs.Line.{space, afterSpaces, part}
-use Rattle.cases.specs.Parts.{numberOf, areBytes, bytesOf}
+use Rattle.cases.specs.Parts.{largest, numberOf, areBytes, bytesOf}
 
+-- in the order of the parts; `bits` is the length
 pub record Case : Type 0 where
   pub algorithm : ℕ
   pub key : List ℕ
@@ -36,6 +38,23 @@ lineOf c =
     (joined (digits (c .bits))
     (joined (digits (c .skip))
     (hexText (c .buffer)))))))
+
+-- numbers of 64 bits, and bytes
+abbrev pub Narrow : ℕ → Type 0
+Narrow n = n ≤ largest
+
+abbrev pub Bytes : List ℕ → Type 0
+Bytes l = (0 < length l) × ((i : ℕ) → getD l i 0 < 256)
+
+-- what a line can say
+pub record Good (c : Case) : Type 0 where
+  pub algorithm : Narrow (c .algorithm)
+  pub key : Bytes (c .key)
+  pub iv : Bytes (c .iv)
+  pub start : Narrow (c .start)
+  pub bits : Narrow (c .bits)
+  pub skip : Narrow (c .skip)
+  pub buffer : Bytes (c .buffer)
 
 -- the last part: what follows six spaces
 abbrev pub lastPart : List ℕ → List ℕ

@@ -16,7 +16,7 @@ ghost use Rattle.records.specs.Writing.{Room, Put};
 ghost use Rattle.cases.specs.Case.{lastPart, caseOf, Accepted};
 ghost use Rattle.cases.specs.Answer.{valueText, modeText, ciphered, bufferText, acceptedText, room};
 
-// A value of 24 bytes and a space.
+// A value of 24 bytes and a space: 49 bytes.
 fn put_value(out: &mut [u8], at: usize, bytes: [u8; 24]) -> usize
     requires { ⌜ at + 49 ≤ length (now out) ⌝ }
     ensures { λ r. ⌜ (r ≡ at + 49) × Put (now (out .entry)) at (valueText bytes) (now (out .exit)) r ⌝ }
@@ -25,7 +25,7 @@ fn put_value(out: &mut [u8], at: usize, bytes: [u8; 24]) -> usize
     put_bytes(out, end, b" ")
 }
 
-// Mixed value, mode key and mode value.
+// Mixed value, mode key and mode value: 147 bytes.
 fn put_mode(out: &mut [u8], at: usize, algorithm: u64, ck: [u8; 24], iv: [u8; 10]) -> usize
     requires { ⌜ at + 147 ≤ length (now out) ⌝ }
     ensures { λ r. ⌜ Put (now (out .entry)) at (modeText algorithm ck iv) (now (out .exit)) r ⌝ }

@@ -80,7 +80,7 @@ follow-is high n b e =
     let r = and-right (between 48 b 57) _ e in
     (between-low 48 b 57 d, between-high 48 b 57 d, ltb-true 0 n (and-left (ltb 0 n) _ r), leb-true _ high (and-right (ltb 0 n) _ r))
 
-follow-yes : (high n d : ℕ) → d < 10 → 0 < n → n * 10 + d ≤ high → mayFollow high n (48 + d) ≡ true
+pub follow-yes : (high n d : ℕ) → d < 10 → 0 < n → n * 10 + d ≤ high → mayFollow high n (48 + d) ≡ true
 unfolding mayFollow
 follow-yes high n d h g l =
     rw (between-is 48 (48 + d) 57 (omega arith) (omega arith), lt-ltb 0 n g) (le-leb (n * 10 + (48 + d - 48)) high (omega arith))

@@ -18,11 +18,11 @@ use Rattle.records.proofs.Forms.{Spells, Means, parts, both-spell, made
 
 -- one digit: each rule is tested over all of them
 
-digit-is-hex : (d : ℕ) → d < 16 → isHex (hexDigit d) ≡ true
+pub digit-is-hex : (d : ℕ) → d < 16 → isHex (hexDigit d) ≡ true
 unfolding isHex hexDigit
 digit-is-hex d h = holds (λ x. isHex (hexDigit x)) 0 16 tt d zero-le h
 
-value-of-digit : (d : ℕ) → d < 16 → hexValue (hexDigit d) ≡ d
+pub value-of-digit : (d : ℕ) → d < 16 → hexValue (hexDigit d) ≡ d
 unfolding hexValue hexDigit
 value-of-digit d h = agree (λ x. hexValue (hexDigit x)) (λ x. x) 0 16 tt d zero-le h
 
