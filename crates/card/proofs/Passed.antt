@@ -14,7 +14,7 @@ use Rattle.slots.specs.Slots.{hasBad, slotAt}
 use Rattle.slots.specs.Rights.{isDirection, includes}
 use Rattle.slots.specs.Calls.{slotRefusal}
 use Rattle.slots.proofs.Passed.{SlotPassed, slot-passed}
-use Rattle.card.specs.Bench.{benchRefusal}
+use Rattle.card.specs.Bench.{keyedRefusal}
 use Rattle.card.specs.Traffic.{onSide, useRefusal, trafficRefusal}
 
 pub record SpanPassed (size start n skip : ℕ) : Type 0 where
@@ -34,21 +34,21 @@ span-passed size start n skip e =
       inside = ltb-false (8 * size) (start + n) (six .0);
     }
 
-pub record BenchPassed (key iv buf : List ℕ) (n : ℕ) : Type 0 where
-  pub key-24 : length key ≡ 24
-  pub iv-10 : length iv ≡ 10
-  pub span : SpanPassed (length buf) 0 n 0
+pub record KeyedPassed (key iv size start n skip : ℕ) : Type 0 where
+  pub key-24 : key ≡ 24
+  pub iv-10 : iv ≡ 10
+  pub span : SpanPassed size start n skip
 
-pub bench-passed : (algorithm : ℕ) (key iv buf : List ℕ) (n : ℕ) → benchRefusal algorithm key iv buf n ≡ 0 → BenchPassed key iv buf n
-unfolding benchRefusal
-bench-passed algorithm key iv buf n e =
+pub keyed-passed : (algorithm key iv size start n skip : ℕ) → keyedRefusal algorithm key iv size start n skip ≡ 0 → KeyedPassed key iv size start n skip
+unfolding keyedRefusal
+keyed-passed algorithm key iv size start n skip e =
     let one = unpicked (not (isAlgorithm algorithm)) 1 _ (lit< tt) e in
-    let two = unpicked (not (eqb (length key) 24)) 2 _ (lit< tt) (one .1) in
-    let three = unpicked (not (eqb (length iv) 10)) 3 _ (lit< tt) (two .1) in
+    let two = unpicked (not (eqb key 24)) 2 _ (lit< tt) (one .1) in
+    let three = unpicked (not (eqb iv 10)) 3 _ (lit< tt) (two .1) in
     record {
-      key-24 = eqb-true (length key) 24 (not-false (eqb (length key) 24) (two .0));
-      iv-10 = eqb-true (length iv) 10 (not-false (eqb (length iv) 10) (three .0));
-      span = span-passed (length buf) 0 n 0 (three .1);
+      key-24 = eqb-true key 24 (not-false (eqb key 24) (two .0));
+      iv-10 = eqb-true iv 10 (not-false (eqb iv 10) (three .0));
+      span = span-passed size start n skip (three .1);
     }
 
 -- a slot's key may be used in this direction with this initial value

@@ -11,13 +11,18 @@ use Rattle.span.specs.Span.{written, blocksUsed}
 use Rattle.keystream.specs.Stream.{keystream}
 use Rattle.card.specs.Span.{spanRefusal}
 
--- the order: 1, 2, 3, 5, 4, 6
-unfoldable pub benchRefusal : ℕ → List ℕ → List ℕ → List ℕ → ℕ → ℕ
-benchRefusal algorithm key iv buf n =
+-- keystream under a key that comes with the call, in the order 1, 2, 3, 5, 4, 6: by the algorithm, the bytes that key, IV and buffer have,
+-- and the run of bits
+unfoldable pub keyedRefusal : ℕ → ℕ → ℕ → ℕ → ℕ → ℕ → ℕ → ℕ
+keyedRefusal algorithm key iv size start n skip =
     refuse (not (isAlgorithm algorithm)) algorithmUnknown
-    (refuse (not (eqb (length key) 24)) benchKeyNot24
-    (refuse (not (eqb (length iv) 10)) ivNot10
-    (spanRefusal (length buf) 0 n 0)))
+    (refuse (not (eqb key 24)) benchKeyNot24
+    (refuse (not (eqb iv 10)) ivNot10
+    (spanRefusal size start n skip)))
+
+-- the bench call starts at bit 0 and skips none
+abbrev pub benchRefusal : ℕ → List ℕ → List ℕ → List ℕ → ℕ → ℕ
+benchRefusal algorithm key iv buf n = keyedRefusal algorithm (length key) (length iv) (length buf) 0 n 0
 
 -- the buffer afterwards: its first n bits are the keystream's, and a refusal changes nothing
 unfoldable pub benched : ℕ → List ℕ → List ℕ → List ℕ → ℕ → List ℕ

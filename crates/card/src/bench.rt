@@ -4,24 +4,39 @@ ghost use Prim.Native.Nat.{_*_, _≤_};
 ghost use lib.ListN.{length};
 ghost use Rattle.span.specs.Span.{written};
 ghost use Rattle.keystream.specs.Stream.{keystream};
-ghost use Rattle.card.specs.Bench.{benchRefusal, benched, benchBlocks};
+ghost use Rattle.card.specs.Bench.{keyedRefusal, benchRefusal, benched, benchBlocks};
 use crate::lent::iv_of;
 use crate::lent::key_of;
 use crate::span_tests::span_refusal;
 
-fn bench_refusal(algorithm: u64, key: &[u8], iv: &[u8], buf: &[u8], n: usize) -> u8
-    ensures { λ r. ⌜ r ≡ benchRefusal algorithm (now (key .entry)) (now (iv .entry)) (now (buf .entry)) n ⌝ }
+// Whether keystream may be had under a key that comes with the call, by the bytes of key, initial value and buffer.
+pub fn keyed_refusal(
+    algorithm: u64,
+    key: usize,
+    iv: usize,
+    size: usize,
+    start: usize,
+    n: usize,
+    skip: usize,
+) -> u8
+    ensures { λ r. ⌜ r ≡ keyedRefusal algorithm key iv size start n skip ⌝ }
 {
     if !fields::is_algorithm(algorithm) {
         return refusals::ALGORITHM;
     }
-    if key.len() != 24 {
+    if key != 24 {
         return refusals::BENCH_KEY;
     }
-    if iv.len() != 10 {
+    if iv != 10 {
         return refusals::IV_SIZE;
     }
-    span_refusal(buf.len(), 0, n, 0)
+    span_refusal(size, start, n, skip)
+}
+
+fn bench_refusal(algorithm: u64, key: &[u8], iv: &[u8], buf: &[u8], n: usize) -> u8
+    ensures { λ r. ⌜ r ≡ benchRefusal algorithm (now (key .entry)) (now (iv .entry)) (now (buf .entry)) n ⌝ }
+{
+    keyed_refusal(algorithm, key.len(), iv.len(), buf.len(), 0, n, 0)
 }
 
 // Bits 0 to n - 1 of the buffer become the keystream's. They are cleared first, and xored then.

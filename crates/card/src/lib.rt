@@ -4,6 +4,6 @@ mod lent;
 mod lent_table;
 pub mod pdu;
 pub mod record;
-pub mod span_tests;
+mod span_tests;
 pub mod table;
 pub mod traffic;

@@ -1,16 +1,14 @@
 -- A case of the program `vectors`, by its line: algorithm, key, initial value, start, length, skip and buffer. That the readable lines are
 -- those of the good cases, one for each, is stated in proofs/Promises.antt and proofs/GoodLines.antt.
 -- Assumes nothing: these are definitions.
-use mathlib.Core.Bool.{Bool, true, not, _&&_}
+use mathlib.Core.Bool.{Bool, true, _&&_}
 use mathlib.Core.List.{List, _∷_, _++_}
 use mathlib.Core.Path.{_≡_}
 use Prim.Native.Nat.{ℕ, _<_, _≤_}
-use lib.Dec.{eqb}
 use lib.ListN.{length, getD}
-use Rattle.refusals.specs.Numbers.{done, algorithmUnknown, benchKeyNot24, ivNot10, refuse}
-use Rattle.fields.specs.Fields.{isAlgorithm}
+use Rattle.refusals.specs.Numbers.{done}
 use Rattle.records.specs.Text.{digits, hexText}
-use Rattle.card.specs.Span.{spanRefusal}
+use Rattle.card.specs.Bench.{keyedRefusal}
 use Rattle.cases.specs.Line.{space, afterSpaces, part}
 use Rattle.cases.specs.Parts.{largest, numberOf, areBytes, bytesOf}
 
@@ -83,13 +81,9 @@ caseOf line =
       buffer = bytesOf (lastPart line);
     }
 
--- the order of the bench call, with a start and a skip: 1, 2, 3, 5, 4, 6
-unfoldable pub refusalOf : Case → ℕ
-refusalOf c =
-    refuse (not (isAlgorithm (c .algorithm))) algorithmUnknown
-    (refuse (not (eqb (length (c .key)) 24)) benchKeyNot24
-    (refuse (not (eqb (length (c .iv)) 10)) ivNot10
-    (spanRefusal (length (c .buffer)) (c .start) (c .bits) (c .skip))))
+-- as the bench call refuses, with a start and a skip
+abbrev pub refusalOf : Case → ℕ
+refusalOf c = keyedRefusal (c .algorithm) (length (c .key)) (length (c .iv)) (length (c .buffer)) (c .start) (c .bits) (c .skip)
 
 -- the line is readable, and its case is not refused
 pub record Accepted (line : List ℕ) : Type 0 where

@@ -4,7 +4,7 @@ use crate::bytes::read_bytes;
 use crate::line::after_spaces;
 use crate::line::part;
 use crate::number::read_number;
-use card::span_tests::span_refusal;
+use card::bench::keyed_refusal;
 ghost use mathlib.Core.Path.{_≡_};
 ghost use Prim.Native.Nat.{_/_};
 ghost use lib.ListN.{length};
@@ -74,20 +74,13 @@ pub fn is_readable(line: &[u8]) -> bool
     are_bytes(after_spaces(line, 6))
 }
 
-// Refusals 1, 2, 3, 5, 4, 6, in this order.
 pub fn case_refusal(line: &[u8]) -> u8
     ensures { λ r. ⌜ r ≡ refusalOf (caseOf (now (line .entry))) ⌝ }
 {
-    if !fields::is_algorithm(value(line, 0)) {
-        return refusals::ALGORITHM;
-    }
-    if size(line, 1) != 24 {
-        return refusals::BENCH_KEY;
-    }
-    if size(line, 2) != 10 {
-        return refusals::IV_SIZE;
-    }
-    span_refusal(
+    keyed_refusal(
+        value(line, 0),
+        size(line, 1),
+        size(line, 2),
         buffer_size(line),
         value(line, 3) as usize,
         value(line, 4) as usize,

@@ -1,12 +1,13 @@
 -- `card::bench::card_bench`: a refusal keeps the buffer; else the work's contracts say what it holds. Assumes nothing.
 use mathlib.Core.Path.{_≡_, sym, _∙_}
 use native.Mathlib.Omega.{arith}
+use lib.ListN.{length}
 use borrow.Author.Needs.{needs}
 use borrow.Author.Tests.{eq-eqb, ne-eqb}
 use Rattle.span.specs.Span.{written}
 use Rattle.keystream.specs.Stream.{keystream}
 use Rattle.card.specs.Bench.{benchRefusal, benched, benchBlocks}
-use Rattle.card.proofs.Passed.{BenchPassed, bench-passed}
+use Rattle.card.proofs.Passed.{KeyedPassed, keyed-passed}
 use Rattle.card.proofs.bench.card_bench.Statement.{statement}
 use Rattle.card.proofs.bench.card_bench.Tie as tie
 
@@ -16,8 +17,8 @@ start e = e .before .before .before .before .before .before
 accepted : (e : tie.Else1) → benchRefusal (start e .args .algorithm) (start e .args .key .now) (start e .args .iv .now) (start e .args .buf .now) (start e .args .n) ≡ 0
 accepted e = sym (e .before .bench-refusal .ensures) ∙ e .if1 .left
 
-passed : (e : tie.Else1) → BenchPassed (start e .args .key .now) (start e .args .iv .now) (start e .args .buf .now) (start e .args .n)
-passed e = bench-passed (start e .args .algorithm) (start e .args .key .now) (start e .args .iv .now) (start e .args .buf .now) (start e .args .n) (accepted e)
+passed : (e : tie.Else1) → KeyedPassed (length (start e .args .key .now)) (length (start e .args .iv .now)) (length (start e .args .buf .now)) 0 (start e .args .n) 0
+passed e = keyed-passed _ _ _ _ _ _ _ (accepted e)
 
 returns : tie.Need-returns
 unfolding benched benchBlocks
