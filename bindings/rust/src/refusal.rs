@@ -84,6 +84,29 @@ const LISTED: [Refusal; 19] = [
     Refusal::PduParts,
 ];
 
+/// What is wrong and what to look at, from refusal 1 on. Refusal 15 says more, by its line.
+const SENTENCES: [&str; 19] = [
+    "the algorithm isn't 5, 6 or 7; look at the algorithm that was asked for",
+    "the bench key isn't 24 bytes; look at how long the key is",
+    "the initial value isn't 10 bytes; look at how long it is",
+    "the length is 0, or skip and length together are above 8,288 bits; look at the span's length and skip",
+    "the buffer is longer than 8,192 bytes; look at whether more than one PDU is handed over",
+    "the span ends after the buffer's last bit; look at its start and length, which count bits and not bytes",
+    "the slot number isn't 1 to 32; look at the number, which counts from 1",
+    "the slot is empty; look at whether its key was loaded, or moved to another slot",
+    "the target slot is filled; look at what it holds, and clear it if that key is done with",
+    "the use or direction code is unknown; look at the code: a use is 1, 2 or 3, or 0 on a move, and a direction is 1 or 2",
+    "the side is above 1 or the place above 79; look at these two numbers",
+    "the key's use doesn't include this direction; look at the use letter of the slot's record",
+    "the initial value's side bit is wrong for this direction; look at the slot's side and place, and at which end made the initial value",
+    "the asked use isn't within the key's present use; look at the slot's use, which a move can narrow and never widen",
+    "a line of the record is wrong or cut short; look at that line",
+    "the table isn't 32 slots, or one of them is bad; look for a field out of range, or an empty slot with a byte that isn't zero",
+    "the record is longer than the buffer; look at the buffer's length: 111 bytes hold any record",
+    "the PDU's kind, state or flag is unknown, or the PDU is above 8,288 bits; look at these four numbers",
+    "the PDU's parts don't fit; look at its length, and at where its address and its DM-SDU start",
+];
+
 /// What the lines of a record should be, from line 1 on.
 const LINES: [&str; 7] = [
     "number= and 1 to 32",
@@ -132,76 +155,15 @@ impl Refusal {
 
 impl fmt::Display for Refusal {
     fn fmt(&self, f: &mut fmt::Formatter) -> fmt::Result {
-        write!(f, "refused with {}: ", self.number())?;
-        let sentence = match self {
-            Refusal::Algorithm => {
-                "the algorithm isn't 5, 6 or 7; look at the algorithm that was asked for"
-            }
-            Refusal::BenchKey => "the bench key isn't 24 bytes; look at how long the key is",
-            Refusal::IvSize => "the initial value isn't 10 bytes; look at how long it is",
-            Refusal::Length => {
-                "the length is 0, or skip and length together are above 8,288 bits; \
-                 look at the span's length and skip"
-            }
-            Refusal::Buffer => {
-                "the buffer is longer than 8,192 bytes; \
-                 look at whether more than one PDU is handed over"
-            }
-            Refusal::Span => {
-                "the span ends after the buffer's last bit; \
-                 look at its start and length, which count bits and not bytes"
-            }
-            Refusal::SlotNumber => {
-                "the slot number isn't 1 to 32; look at the number, which counts from 1"
-            }
-            Refusal::SlotEmpty => {
-                "the slot is empty; look at whether its key was loaded, or moved to another slot"
-            }
-            Refusal::TargetFilled => {
-                "the target slot is filled; \
-                 look at what it holds, and clear it if that key is done with"
-            }
-            Refusal::Code => {
-                "the use or direction code is unknown; \
-                 look at the code: a use is 1, 2 or 3, or 0 on a move, and a direction is 1 or 2"
-            }
-            Refusal::SideOrPlace => {
-                "the side is above 1 or the place above 79; look at these two numbers"
-            }
-            Refusal::Direction => {
-                "the key's use doesn't include this direction; \
-                 look at the use letter of the slot's record"
-            }
-            Refusal::IvSide => {
-                "the initial value's side bit is wrong for this direction; \
-                 look at the slot's side and place, and at which end made the initial value"
-            }
-            Refusal::UseWider => {
-                "the asked use isn't within the key's present use; \
-                 look at the slot's use, which a move can narrow and never widen"
-            }
-            Refusal::RecordText { line } => return write_line_sentence(f, *line),
-            Refusal::Table => {
-                "the table isn't 32 slots, or one of them is bad; \
-                 look for a field out of range, or an empty slot with a byte that isn't zero"
-            }
-            Refusal::RecordRoom => {
-                "the record is longer than the buffer; \
-                 look at the buffer's length: 111 bytes hold any record"
-            }
-            Refusal::PduCode => {
-                "the PDU's kind, state or flag is unknown, or the PDU is above 8,288 bits; \
-                 look at these four numbers"
-            }
-            Refusal::PduParts => {
-                "the PDU's parts don't fit; \
-                 look at its length, and at where its address and its DM-SDU start"
-            }
-            Refusal::Unlisted(_) => {
-                "this number is newer than the bindings; look it up in the library's card.h"
-            }
-        };
-        f.write_str(sentence)
+        let number = self.number();
+        write!(f, "refused with {number}: ")?;
+        match self {
+            Refusal::RecordText { line } => write_line_sentence(f, *line),
+            Refusal::Unlisted(_) => f.write_str(
+                "this number is newer than the bindings; look it up in the library's card.h",
+            ),
+            _ => f.write_str(SENTENCES[usize::from(number) - 1]),
+        }
     }
 }
 
