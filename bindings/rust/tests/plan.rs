@@ -28,6 +28,23 @@ fn state_3_has_the_pieces_of_document_01() {
     assert_eq!(plan(&Pdu { state: 0, ..pdu }), Ok([None, None]));
 }
 
+/// Lengths and places at the edges.
+const PLACES: [usize; 13] = [
+    0,
+    1,
+    9,
+    10,
+    12,
+    17,
+    18,
+    34,
+    124,
+    432,
+    8288,
+    8289,
+    usize::MAX,
+];
+
 #[test]
 fn plans_are_the_second_programs() {
     let kinds = [
@@ -35,27 +52,12 @@ fn plans_are_the_second_programs() {
         PduKind::DmacSyncSchH,
         PduKind::DmacSyncSchS,
     ];
-    let places = [
-        0,
-        1,
-        9,
-        10,
-        12,
-        17,
-        18,
-        34,
-        124,
-        432,
-        8288,
-        8289,
-        usize::MAX,
-    ];
     for kind in kinds {
         for state in [0, 1, 2, 3, 4, u64::MAX] {
             for flag in [false, true] {
-                for length in places {
-                    for address in places {
-                        for sdu in places {
+                for length in PLACES {
+                    for address in PLACES {
+                        for sdu in PLACES {
                             same(&Pdu {
                                 kind,
                                 state,

@@ -11,13 +11,25 @@ use card::{
 };
 use common::{bytes, second_fields, second_span, second_table, shown, table, IV, KEY, WHOLE_BYTE};
 
-const GOOD: Asked = Asked {
-    version: 1,
-    algorithm: 5,
-    usage: 3,
-    side: 0,
-    place: 28,
-};
+const GOOD: Asked = asked(5, 3, 0, 28);
+
+const fn asked(algorithm: u64, usage: u64, side: u64, place: u64) -> Asked {
+    Asked {
+        version: 1,
+        algorithm,
+        usage,
+        side,
+        place,
+    }
+}
+
+fn span(start: usize, length: usize, skip: usize) -> Span {
+    Span {
+        start,
+        length,
+        skip,
+    }
+}
 
 /// The refusals that were reached.
 #[derive(Default)]
@@ -81,11 +93,6 @@ fn trafficked(reached: &mut Reached) {
         reached.refused(refusal, traffic, answer.refusal);
         assert_eq!(lent, bytes(buffer));
     };
-    let span = |start, length, skip| Span {
-        start,
-        length,
-        skip,
-    };
     case(10, 0, 3, &IV, 4, WHOLE_BYTE);
     case(10, 3, 33, &IV, 4, WHOLE_BYTE);
     case(7, 1, 0, &IV, 4, WHOLE_BYTE);
@@ -116,35 +123,12 @@ fn loaded_and_moved(reached: &mut Reached) {
         let answer = second::slots::load(&mut second, slot, &second_fields(asked), &[9; 24]);
         reached.refused(number, card.load(slot, asked, &[9; 24]), answer);
     };
-    load(
-        7,
-        33,
-        Asked {
-            algorithm: 4,
-            ..GOOD
-        },
-    );
-    load(
-        1,
-        3,
-        Asked {
-            algorithm: 261,
-            usage: 4,
-            ..GOOD
-        },
-    );
-    load(
-        10,
-        4,
-        Asked {
-            usage: 0,
-            side: 2,
-            ..GOOD
-        },
-    );
-    load(11, 4, Asked { side: 2, ..GOOD });
-    load(11, 3, Asked { place: 80, ..GOOD });
-    load(11, 4, Asked { place: 256, ..GOOD });
+    load(7, 33, asked(4, 3, 0, 28));
+    load(1, 3, asked(261, 4, 0, 28));
+    load(10, 4, asked(5, 0, 2, 28));
+    load(11, 4, asked(5, 3, 2, 28));
+    load(11, 3, asked(5, 3, 0, 80));
+    load(11, 4, asked(5, 3, 0, 256));
     load(9, 3, GOOD);
 
     let mut moved = |number, from, to, asked: u64| {
@@ -171,11 +155,7 @@ fn loaded_and_moved(reached: &mut Reached) {
 fn same_key(card: &Table) {
     let mut sent = bytes(64);
     let mut expected = bytes(64);
-    let span = Span {
-        start: 0,
-        length: 512,
-        skip: 0,
-    };
+    let span = span(0, 512, 0);
     card.traffic(Direction::Send, 3, &IV, &mut sent, span)
         .unwrap();
     let second = second_table(Algorithm::Tea5, Use::Send);
@@ -243,35 +223,10 @@ fn records(reached: &mut Reached) {
         reached.refused(number, record_write(slot, asked, &KEY, &mut lent), answer);
         assert_eq!(lent, bytes(room));
     };
-    write(
-        7,
-        0,
-        Asked {
-            algorithm: 4,
-            ..GOOD
-        },
-        0,
-    );
-    write(
-        1,
-        1,
-        Asked {
-            algorithm: 8,
-            ..GOOD
-        },
-        0,
-    );
-    write(
-        10,
-        1,
-        Asked {
-            usage: 4,
-            place: 80,
-            ..GOOD
-        },
-        0,
-    );
-    write(11, 1, Asked { place: 80, ..GOOD }, 0);
+    write(7, 0, asked(4, 3, 0, 28), 0);
+    write(1, 1, asked(8, 3, 0, 28), 0);
+    write(10, 1, asked(5, 4, 0, 80), 0);
+    write(11, 1, asked(5, 3, 0, 80), 0);
     write(17, 1, GOOD, 104);
     write(17, 1, GOOD, 0);
 }
@@ -341,10 +296,7 @@ fn numbers_are_codes_or_the_cards_refusal() {
             Ok(usage) => assert_eq!(u64::from(usage), number),
             Err(refusal) => {
                 assert_eq!(refusal, Refusal::Code);
-                let asked = Asked {
-                    usage: number,
-                    ..GOOD
-                };
+                let asked = asked(5, number, 0, 28);
                 assert_eq!(Table::new().load(1, asked, &KEY), Err(refusal));
             }
         }
