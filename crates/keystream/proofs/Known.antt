@@ -14,9 +14,9 @@ use Rattle.laws.specs.Bits.{bitOf, bitAt}
 use Rattle.laws.proofs.Cases.{pick-cases}
 use Rattle.laws.proofs.Lists.{getD-tabulate}
 use Rattle.field.specs.Field.{times, inverse, affine, sBox}
-use Rattle.rijndael.specs.Words.{join}
-use Rattle.rijndael.specs.Steps.{byteSub, shiftRow, mixedByte, mixColumn, addRoundKey}
-use Rattle.rijndael.specs.Schedule.{keyWord, rotByte, subByte, roundConstant, carried, packed}
+use Rattle.words.specs.Words.{join}
+use Rattle.rounds.specs.Steps.{byteSub, shiftRow, mixedByte, mixColumn, addRoundKey}
+use Rattle.schedule.specs.Schedule.{keyWord, rotByte, subByte, roundConstant, carried, packed}
 use Rattle.rijndael.specs.Cipher.{toState, toBlock, rounds, encrypted, cipher}
 use Rattle.tea.specs.declared.mode.Mode.{Mode}
 use Rattle.tea.specs.Combining.{fTea5}

@@ -4,7 +4,8 @@ ghost use Prim.Native.Nat.{_+_, _-_, _*_, _<_, _≤_, min};
 ghost use lib.ListN.{length};
 ghost use Rattle.laws.specs.Lists.{tabulate};
 ghost use Rattle.field.specs.Field.{sBoxes};
-ghost use Rattle.rijndael.specs.Schedule.{keyWord};
+ghost use Rattle.products.specs.Products.{products};
+ghost use Rattle.schedule.specs.Schedule.{keyWord};
 ghost use Rattle.span.specs.Span.{xored, streamBit};
 ghost use Rattle.tea.specs.Keystream.{blockOf};
 ghost use Rattle.keystream.specs.Stream.{keystream};
@@ -19,8 +20,8 @@ fn piece(from: usize, left: usize) -> usize
 }
 
 // Block j under a mode, whose schedule is lent.
-fn block(mode: Mode, j: usize, w: &[u32], table: &[u8; 256]) -> [u8; 32]
-    requires { ⌜ (j < 256) × ((now w ≡ tabulate (keyWord (mode .key)) 0 120) × (now table ≡ sBoxes)) ⌝ }
+fn block(mode: Mode, j: usize, w: &[u32], table: &[u8; 256], mixes: &[u8; 2048]) -> [u8; 32]
+    requires { ⌜ (j < 256) × ((now w ≡ tabulate (keyWord (mode .key)) 0 120) × ((now table ≡ sBoxes) × (now mixes ≡ products))) ⌝ }
     ensures { λ r. ⌜ r ≡ blockOf mode j ⌝ }
 {
     let value = mode.value;
@@ -28,6 +29,7 @@ fn block(mode: Mode, j: usize, w: &[u32], table: &[u8; 256]) -> [u8; 32]
         tea::plaintext::plaintext(value, mode.digit, j as u32),
         w,
         table,
+        mixes,
     )
 }
 
@@ -40,8 +42,9 @@ fn xor_blocks(
     mode: Mode,
     w: &[u32],
     table: &[u8; 256],
+    mixes: &[u8; 2048],
 )
-    requires { ⌜ (length (now buf) ≤ 8192) × (start + n ≤ 8 * length (now buf)) × ((skip + n ≤ 8288) × ((now w ≡ tabulate (keyWord (mode .key)) 0 120) × (now table ≡ sBoxes))) ⌝ }
+    requires { ⌜ (length (now buf) ≤ 8192) × (start + n ≤ 8 * length (now buf)) × ((skip + n ≤ 8288) × ((now w ≡ tabulate (keyWord (mode .key)) 0 120) × ((now table ≡ sBoxes) × (now mixes ≡ products)))) ⌝ }
     ensures { λ _. ⌜ now (buf .exit) ≡ xored (now (buf .entry)) (streamBit (blockOf mode)) start skip n ⌝ }
 {
     let mut done = 0;
@@ -49,7 +52,7 @@ fn xor_blocks(
         let at = skip + done;
         let from = at % 256;
         let p = piece(from, n - done);
-        let b = block(mode, at / 256, w, table);
+        let b = block(mode, at / 256, w, table, mixes);
         span::xor_block(buf, b, start + done, from, p);
         done += p;
     }
@@ -72,6 +75,7 @@ pub fn xor_keystream(
     let mode = tea::mode::mode_of(algorithm, ck, iv);
     let key = mode.key;
     let mut w = [0u32; 120];
-    rijndael::schedule::expand_key(&mut w, key, &table);
-    xor_blocks(buf, start, n, skip, mode, &w, &table);
+    schedule::expand_key(&mut w, key, &table);
+    let mixes = products::product_table();
+    xor_blocks(buf, start, n, skip, mode, &w, &table, &mixes);
 }

@@ -1,2 +1,1 @@
-pub mod KeyWords
 pub mod Rounds

@@ -1,15 +1,14 @@
 // Rijndael with blocks of 256 bits and keys of 192 bits: 14 rounds on a state of four rows by eight columns.
-pub mod schedule;
-mod steps;
-pub mod words;
-
 ghost use mathlib.Core.Path.{_≡_};
 ghost use lib.ListN.{length};
 ghost use Rattle.field.specs.Field.{sBoxes};
+ghost use Rattle.products.specs.Products.{products};
 ghost use Rattle.rijndael.specs.Cipher.{toState, toBlock, encrypted};
-use steps::add_round_key;
-use steps::last_round;
-use steps::round;
+use rounds::add_round_key;
+use rounds::last_round;
+use rounds::packing::from_words;
+use rounds::packing::to_words;
+use rounds::round;
 
 // Byte k of a block stands in row k mod 4, column k div 4.
 fn to_state(b: [u8; 32]) -> [[u8; 8]; 4]
@@ -38,22 +37,23 @@ fn to_block(s: [[u8; 8]; 4]) -> [u8; 32]
     b
 }
 
-fn encrypt(s: [[u8; 8]; 4], w: &[u32], table: &[u8; 256]) -> [[u8; 8]; 4]
-    requires { ⌜ (length (now w) ≡ 120) × (now table ≡ sBoxes) ⌝ }
+// The initial key, rounds 1 to 13, and the final round. Between two rounds the state is eight words.
+fn encrypt(s: [[u8; 8]; 4], w: &[u32], table: &[u8; 256], mixes: &[u8; 2048]) -> [[u8; 8]; 4]
+    requires { ⌜ (length (now w) ≡ 120) × ((now table ≡ sBoxes) × (now mixes ≡ products)) ⌝ }
     ensures { λ r. ⌜ r ≡ encrypted (now (w .entry)) s ⌝ }
 {
-    let mut t = add_round_key(s, w, 0);
+    let mut t = to_words(add_round_key(s, w, 0));
     for n in 1..14 {
-        let u = round(t, w, n, table);
+        let u = to_words(round(from_words(t), w, n, mixes));
         t = u;
     }
-    last_round(t, w, 14, table)
+    last_round(from_words(t), w, 14, table)
 }
 
 // A block under a schedule. It is the one caller of `encrypt`, which is inlined only so.
-pub fn encrypt_block(b: [u8; 32], w: &[u32], table: &[u8; 256]) -> [u8; 32]
-    requires { ⌜ (length (now w) ≡ 120) × (now table ≡ sBoxes) ⌝ }
+pub fn encrypt_block(b: [u8; 32], w: &[u32], table: &[u8; 256], mixes: &[u8; 2048]) -> [u8; 32]
+    requires { ⌜ (length (now w) ≡ 120) × ((now table ≡ sBoxes) × (now mixes ≡ products)) ⌝ }
     ensures { λ r. ⌜ r ≡ toBlock (encrypted (now (w .entry)) (toState b)) ⌝ }
 {
-    to_block(encrypt(to_state(b), w, table))
+    to_block(encrypt(to_state(b), w, table, mixes))
 }

@@ -5,9 +5,13 @@ use Prim.Native.Nat.{ℕ, _+_, _-_, _<_, _≤_}
 use native.Mathlib.Nat.{add-zero}
 use native.Mathlib.Omega.{arith}
 use lib.Dec.{lit<}
-use lib.ListN.{length, getD}
+use lib.Bits.{bitXor}
+use lib.ListN.{length, getD, set}
+use lib.Seq.{getD-set-same}
 use Rattle.laws.specs.Lists.{Filled}
+use Rattle.laws.proofs.Lists.{fill-more}
 use Rattle.laws.proofs.Windows.{window-at, sequence-first, sequence-next}
+use Rattle.field.specs.Field.{times}
 use Rattle.tea.specs.Mixing.{mixed, mixedByte}
 
 module _ (iv : List ℕ) (ten : length iv ≡ 10) where
@@ -30,3 +34,23 @@ module _ (iv : List ℕ) (ten : length iv ≡ 10) where
       let r : i - 10 + 9 ≡ i - 1 = omega arith in
       rw (g .entries (i - 10) (omega arith), g .entries (i - 9) (omega arith), g .entries (i - 1) (omega arith))
       (sym (ap (mixedByte iv) (sym p) ∙ byte-later (i - 10) ∙ rw (q, r)))
+
+  -- one byte more
+  pub byte-more : (b : List ℕ) (i two one m : ℕ) → Filled (mixedByte iv) 0 44 b i → 10 ≤ i → i < 44 → two ≡ bitXor (getD b (i - 10) 0) (getD b (i - 9) 0) → one ≡ getD b (i - 1) 0 → m ≡ times 0xd7 one
+      → Filled (mixedByte iv) 0 44 (set b i (bitXor two m)) (i + 1)
+  byte-more b i two one m g l h t p q = fill-more g h _ ((λ j. bitXor (t j) ((q ∙ ap (times 0xd7) p) j)) ∙ byte-next b i g l)
+
+  -- the first ten bytes are the initial value's
+  pub byte-same : (b : List ℕ) → Filled (mixedByte iv) 0 44 b 10 → (k : ℕ) → k < 10 → getD iv k 0 ≡ getD b k 0
+  byte-same b g k h = sym (g .entries k h ∙ byte-first k h)
+
+-- a byte that was stored is the one before the next
+pub last-is : (b : List ℕ) (i v : ℕ) → i < length b → v ≡ getD (set b i v) (i + 1 - 1) 0
+last-is b i v h = let q : i + 1 - 1 ≡ i = omega arith in rw q (sym (getD-set-same b i v 0 h))
+
+-- the two bytes for the turn after
+pub two-are : (b : List ℕ) (i : ℕ) → 10 ≤ i → bitXor (getD b (i - 9) 0) (getD b (i - 8) 0) ≡ bitXor (getD b (i + 1 - 10) 0) (getD b (i + 1 - 9) 0)
+two-are b i h =
+    let p : i - 9 ≡ i + 1 - 10 = omega arith in
+    let q : i - 8 ≡ i + 1 - 9 = omega arith in
+    λ j. bitXor (getD b (p j) 0) (getD b (q j) 0)

@@ -1,7 +1,7 @@
 -- The blocks of the keystream (ETSI TS 104 053-2, clauses 5.4, 6.4, 7.4), over the mode. Assumes nothing: these are definitions.
 use mathlib.Core.List.{List, [], _∷_, _++_}
 use Prim.Native.Nat.{ℕ}
-use Rattle.rijndael.specs.Words.{byteOf}
+use Rattle.words.specs.Words.{byteOf}
 use Rattle.rijndael.specs.Cipher.{cipher}
 use Rattle.tea.specs.declared.mode.Mode.{Mode}
 

@@ -1,10 +1,10 @@
 // The plaintext of a keystream block: clauses 5.4, 6.4, 7.4.
 ghost use mathlib.Core.Path.{_≡_};
 ghost use Rattle.tea.specs.Keystream.{plaintext};
-use rijndael::words::byte0;
-use rijndael::words::byte1;
-use rijndael::words::byte2;
-use rijndael::words::byte3;
+use words::byte0;
+use words::byte1;
+use words::byte2;
+use words::byte3;
 
 // IVM, 'T', 'E', 'A', the digit, and the block's number j.
 pub fn plaintext(ivm: [u8; 24], digit: u8, j: u32) -> [u8; 32]

@@ -13,11 +13,11 @@ use Rattle.keystream.proofs.xor_blocks.Statement.{statement}
 use Rattle.keystream.proofs.xor_blocks.Tie as tie
 
 abbrev Inv-loop : tie.InvT-loop
-Inv-loop buf₀ start n skip mode w table done₀ buf done =
+Inv-loop buf₀ start n skip mode w table mixes done₀ buf done =
     (done ≤ n) × (length buf ≡ length buf₀) × (buf ≡ xored buf₀ (streamBit (blockOf mode)) start skip done)
 
 abbrev μ-loop : tie.MeasureT-loop
-μ-loop buf₀ start n skip mode w table done₀ buf done = n - done
+μ-loop buf₀ start n skip mode w table mixes done₀ buf done = n - done
 
 loop-holds : tie.Need-loop-holds Inv-loop μ-loop
 loop-holds c = (search needs, search needs, sym (xored-none _ _ _ _ (λ q. omega (arith, c .before .slice-known .given q))))

@@ -1,19 +1,20 @@
--- `rijndael::encrypt`: t is rounds 1 to n - 1 of what the loop began with. Assumes nothing.
+-- `rijndael::encrypt`: t is, as a state, rounds 1 to n - 1 of what the loop began with. Assumes nothing.
 use mathlib.Core.Path.{_≡_, refl, ap, _∙_}
 use Prim.Native.Nat.{_-_, _≤_}
 use native.Mathlib.Omega.{arith}
 use borrow.Author.Needs.{needs}
 use Rattle.rijndael.specs.Cipher.{rounds, encrypted}
-use Rattle.rijndael.specs.Steps.{roundOf}
+use Rattle.rounds.specs.Steps.{roundOf}
+use Rattle.rounds.specs.Columns.{ofWords}
 use Rattle.rijndael.proofs.Rounds.{rounds-more}
 use Rattle.rijndael.proofs.encrypt.Statement.{statement}
 use Rattle.rijndael.proofs.encrypt.Tie as tie
 
 abbrev Inv-loop : tie.InvT-loop
-Inv-loop w tab t₀ n₀ t n = ((1 ≤ n) × (n ≤ 14)) × (t ≡ rounds w t₀ (n - 1))
+Inv-loop w table mixes t₀ n₀ t n = ((1 ≤ n) × (n ≤ 14)) × (ofWords t ≡ rounds w (ofWords t₀) (n - 1))
 
 abbrev μ-loop : tie.MeasureT-loop
-μ-loop w tab t₀ n₀ t n = 14 - n
+μ-loop w table mixes t₀ n₀ t n = 14 - n
 
 loop-holds : tie.Need-loop-holds Inv-loop μ-loop
 unfolding rounds
@@ -21,18 +22,18 @@ loop-holds c = (search needs, refl)
 
 loop-again : tie.Need-loop-again Inv-loop μ-loop
 loop-again c =
-    let g = c .before .before .loop .inv in
-    (search needs, c .round .ensures ∙ ap (roundOf _ _) (g .1) ∙ rounds-more _ _ _ (g .0 .0))
+    let g = c .before .before .before .before .loop .inv in
+    (search needs, c .to-words2 .ensures ∙ c .before .round .ensures ∙ ap (roundOf _ _) (c .before .before .from-words .ensures ∙ g .1) ∙ rounds-more _ _ _ (g .0 .0))
 
 returns : tie.Need-returns Inv-loop μ-loop
 unfolding encrypted
 returns c =
-    let e : c .before .before .loop .n - 1 ≡ 13 = omega arith in
-    rw (c .last-round .ensures, c .before .before .loop .inv .1, e, c .before .before .before .add-round-key .ensures)
+    let e : c .before .before .before .loop .n - 1 ≡ 13 = omega arith in
+    rw (c .last-round .ensures, c .before .from-words2 .ensures, c .before .before .before .loop .inv .1, e, c .before .before .before .before .to-words .ensures, c .before .before .before .before .before .add-round-key .ensures)
 
 pub encrypt-spec : {M : Type 1} → statement M
 encrypt-spec =
     tie.close
     (tie.spec
-    Inv-loop μ-loop (λ c κs. search needs) loop-holds (λ c κs. search needs) (λ c. search needs) (λ c. search needs) loop-again (λ c κs. search needs)
+    Inv-loop μ-loop (λ c κs. search needs) (λ c κs. search needs) loop-holds (λ c κs. search needs) (λ c κs. search needs) (λ c κs. search needs) (λ c. search needs) (λ c. search needs) loop-again (λ c κs. search needs) (λ c κs. search needs)
     returns)

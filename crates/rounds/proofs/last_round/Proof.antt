@@ -1,0 +1,13 @@
+-- `rounds::last_round`: by the steps' own contracts. Assumes nothing.
+use borrow.Author.Needs.{needs}
+use Rattle.rounds.proofs.last_round.Statement.{statement}
+use Rattle.rounds.proofs.last_round.Tie as tie
+
+returns : tie.Need-returns
+returns c = cc
+
+pub last-round-spec : {M : Type 1} → statement M
+last-round-spec =
+    tie.close
+    (tie.spec
+    (λ c κs. search needs) (λ c κs. search needs) (λ c κs. search needs) returns)
