@@ -4,9 +4,9 @@ ghost use lib.ListN.{length};
 ghost use Rattle.field.specs.Field.{sBoxes};
 ghost use Rattle.products.specs.Products.{products};
 ghost use Rattle.rijndael.specs.Cipher.{toState, toBlock, encrypted};
-use rounds::add_round_key;
 use rounds::last_round;
 use rounds::packing::from_words;
+use rounds::packing::keyed_words;
 use rounds::packing::to_words;
 use rounds::round;
 
@@ -42,7 +42,7 @@ fn encrypt(s: [[u8; 8]; 4], w: &[u32], table: &[u8; 256], mixes: &[u8; 2048]) ->
     requires { ⌜ (length (now w) ≡ 120) × ((now table ≡ sBoxes) × (now mixes ≡ products)) ⌝ }
     ensures { λ r. ⌜ r ≡ encrypted (now (w .entry)) s ⌝ }
 {
-    let mut t = to_words(add_round_key(s, w, 0));
+    let mut t = keyed_words(s, w);
     for n in 1..14 {
         let u = to_words(round(from_words(t), w, n, mixes));
         t = u;

@@ -9,26 +9,26 @@ use lib.Bits.{bitXor, xor-comm}
 use lib.Dec.{lit<}
 use lib.ListN.{length, getD, set, length-set}
 use lib.Seq.{getD-set-same, getD-set-other}
-use Rattle.laws.specs.Lists.{cell, grid}
+use Rattle.laws.specs.Lists.{cell, grid, tabulate}
 use Rattle.laws.proofs.States.{Shape, put, Placed, Apart, place-more, columns-all, grid-at}
 use Rattle.laws.proofs.Tests.{agree}
 use Rattle.field.specs.Field.{sBox}
 use Rattle.words.specs.Words.{byteOf, bytesOf}
 use Rattle.rounds.specs.Steps.{byteSub, shiftOf, shiftRow, mixedByte, mixColumn, addRoundKey, roundOf}
 use Rattle.rounds.specs.Columns.{ofWords, mixedColumn}
-use Rattle.words.proofs.Bytes.{sum-byte}
+use Rattle.words.proofs.Bytes.{sum-byte, summed}
 
 -- equal lists have equal entries
 entry : {a b : List ℕ} → a ≡ b → (k : ℕ) → getD a k 0 ≡ getD b k 0
 entry e k = ap (λ (l : List ℕ). getD l k 0) e
 
--- the first n words are columns of s
-pub record Packed (s : List (List ℕ)) (x : List ℕ) (n : ℕ) : Type 0 where
+-- the bytes of the first n words are columns of f
+pub record Packed (f : ℕ → ℕ → ℕ) (x : List ℕ) (n : ℕ) : Type 0 where
   pub upto : n ≤ 8
   pub size : length x ≡ 8
-  pub bytes : (c : ℕ) → c < n → (r : ℕ) → r < 4 → cell s r c ≡ byteOf (getD x c 0) r
+  pub bytes : (c : ℕ) → c < n → (r : ℕ) → r < 4 → byteOf (getD x c 0) r ≡ f r c
 
-pub pack-none : {s : List (List ℕ)} {x : List ℕ} → length x ≡ 8 → Packed s x 0
+pub pack-none : {f : ℕ → ℕ → ℕ} {x : List ℕ} → length x ≡ 8 → Packed f x 0
 pack-none e = record { upto = zero-le; size = e; bytes = λ c h. absurd (omega arith) }
 
 -- what holds of 0, 1, 2 and 3
@@ -39,29 +39,53 @@ below-four P a b c d (suc (suc zero)) h = c
 below-four P a b c d (suc (suc (suc zero))) h = d
 below-four P a b c d (suc (suc (suc (suc r)))) h = absurd (omega arith)
 
-pub pack-more : {s : List (List ℕ)} {x : List ℕ} {n : ℕ} → Packed s x n → n < 8 → (v : ℕ)
-    → bytesOf v ≡ cell s 0 n ∷ cell s 1 n ∷ cell s 2 n ∷ cell s 3 n ∷ [] → Packed s (set x n v) (n + 1)
-pack-more {s} {x} {n} g h v e = record { upto = omega arith; size = length-set x n v ∙ g .size; bytes = at }
+pub pack-more : {f : ℕ → ℕ → ℕ} {x : List ℕ} {n : ℕ} → Packed f x n → n < 8 → (v : ℕ) → bytesOf v ≡ f 0 n ∷ f 1 n ∷ f 2 n ∷ f 3 n ∷ [] → Packed f (set x n v) (n + 1)
+pack-more {f} {x} {n} g h v e = record { upto = omega arith; size = length-set x n v ∙ g .size; bytes = at }
   where
     l : n < length x
     l = let z : length x ≡ 8 = g .size in omega arith
 
-    new : (r : ℕ) → r < 4 → cell s r n ≡ byteOf v r
-    new = below-four (λ r. cell s r n ≡ byteOf v r) (sym (entry e 0)) (sym (entry e 1)) (sym (entry e 2)) (sym (entry e 3))
+    new : (r : ℕ) → r < 4 → byteOf v r ≡ f r n
+    new = below-four (λ r. byteOf v r ≡ f r n) (entry e 0) (entry e 1) (entry e 2) (entry e 3)
 
-    at : (c : ℕ) → c < n + 1 → (r : ℕ) → r < 4 → cell s r c ≡ byteOf (getD (set x n v) c 0) r
+    at : (c : ℕ) → c < n + 1 → (r : ℕ) → r < 4 → byteOf (getD (set x n v) c 0) r ≡ f r c
     at c hc r hr = ⊎-elim same other (eq-or-lt-of-le {n = c} {m = n} (omega arith))
       where
-        same : c ≡ n → cell s r c ≡ byteOf (getD (set x n v) c 0) r
-        same q = rw q (new r hr ∙ ap (λ (m : ℕ). byteOf m r) (sym (getD-set-same x n v 0 l)))
+        same : c ≡ n → byteOf (getD (set x n v) c 0) r ≡ f r c
+        same q = rw q (ap (λ (m : ℕ). byteOf m r) (getD-set-same x n v 0 l) ∙ new r hr)
 
-        other : c < n → cell s r c ≡ byteOf (getD (set x n v) c 0) r
-        other q = g .bytes c q r hr ∙ ap (λ (m : ℕ). byteOf m r) (sym (getD-set-other x n c v 0 (λ z. let y : c ≡ n = z in omega arith)))
+        other : c < n → byteOf (getD (set x n v) c 0) r ≡ f r c
+        other q = ap (λ (m : ℕ). byteOf m r) (getD-set-other x n c v 0 (λ z. let y : c ≡ n = z in omega arith)) ∙ g .bytes c q r hr
 
-pub pack-all : {s : List (List ℕ)} {x : List ℕ} {n : ℕ} → Shape s → Packed s x n → 8 ≤ n → ofWords x ≡ s
+shape-of : (f : ℕ → ℕ → ℕ) → Shape (grid 4 8 f)
+unfolding grid tabulate
+shape-of f = record { rows = refl; row = below-four (λ r. length (getD (grid 4 8 f) r []) ≡ 8) refl refl refl refl }
+
+pub pack-all : (f : ℕ → ℕ → ℕ) {x : List ℕ} {n : ℕ} → Packed f x n → 8 ≤ n → ofWords x ≡ grid 4 8 f
 unfolding ofWords
-pack-all {s} {x} {n} shape g h =
-    sym (columns-all {c = 8} (record { upto = omega arith; shape = shape; cells = λ r c hr hc p. g .bytes c (omega arith) r hr }) (omega arith))
+pack-all f {x} {n} g h =
+    columns-all {c = 8}
+    (record {
+      upto = omega arith;
+      shape = shape-of (λ r c. byteOf (getD x c 0) r);
+      cells = λ r c hr hc p. grid-at (λ r c. byteOf (getD x c 0) r) refl r c hr hc ∙ g .bytes c (omega arith) r hr;
+    })
+    (omega arith)
+
+-- a state by its own cells
+pub own-cells : {s : List (List ℕ)} → Shape s → grid 4 8 (cell s) ≡ s
+own-cells {s} shape = sym (columns-all {c = 8} (record { upto = omega arith; shape = shape; cells = λ r c hr hc p. refl }) (omega arith))
+
+-- what the initial key leaves in a cell
+abbrev pub firstKeyed : List ℕ → List (List ℕ) → ℕ → ℕ → ℕ
+firstKeyed w s r c = bitXor (cell s r c) (byteOf (getD w (8 * 0 + c) 0) r)
+
+-- one word more: a column's, with its word of the key
+pub keyed-more : (w : List ℕ) (s : List (List ℕ)) {x : List ℕ} {c : ℕ} → Packed (firstKeyed w s) x c → c < 8 → (v : ℕ) → bytesOf v ≡ cell s 0 c ∷ cell s 1 c ∷ cell s 2 c ∷ cell s 3 c ∷ []
+    → Packed (firstKeyed w s) (set x c (bitXor v (getD w c 0))) (c + 1)
+keyed-more w s {x} {c} g h v e =
+    let q : 8 * 0 + c ≡ c = omega arith in
+    subst (λ (m : ℕ). Packed (firstKeyed w s) (set x c (bitXor v (getD w m 0))) (c + 1)) q (pack-more g h _ (summed v (getD w (8 * 0 + c) 0) e refl))
 
 -- a byte through the S-box, in its new place
 abbrev pub moved : List (List ℕ) → ℕ → ℕ → ℕ

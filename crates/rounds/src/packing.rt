@@ -1,7 +1,9 @@
 // A state as eight words, a column each: between two rounds a word stands in a register, where four bytes would not.
 ghost use mathlib.Core.Path.{_≡_};
 ghost use mathlib.Core.List.{[], _∷_};
+ghost use lib.ListN.{length};
 ghost use Rattle.words.specs.Words.{bytesOf};
+ghost use Rattle.rounds.specs.Steps.{addRoundKey};
 ghost use Rattle.rounds.specs.Columns.{ofWords};
 use words::byte0;
 use words::byte1;
@@ -21,6 +23,18 @@ pub fn to_words(s: [[u8; 8]; 4]) -> [u32; 8]
     let mut x = [0u32; 8];
     for c in 0..8 {
         x[c] = column_word(s[0][c], s[1][c], s[2][c], s[3][c]);
+    }
+    x
+}
+
+// The same with the initial key: word by word, where `add_round_key` would go by bytes.
+pub fn keyed_words(s: [[u8; 8]; 4], w: &[u32]) -> [u32; 8]
+    requires { ⌜ length (now w) ≡ 120 ⌝ }
+    ensures { λ x. ⌜ ofWords x ≡ addRoundKey (now (w .entry)) 0 s ⌝ }
+{
+    let mut x = [0u32; 8];
+    for c in 0..8 {
+        x[c] = column_word(s[0][c], s[1][c], s[2][c], s[3][c]) ^ w[c];
     }
     x
 }

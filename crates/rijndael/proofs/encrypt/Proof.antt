@@ -23,17 +23,17 @@ loop-holds c = (search needs, refl)
 loop-again : tie.Need-loop-again Inv-loop μ-loop
 loop-again c =
     let g = c .before .before .before .before .loop .inv in
-    (search needs, c .to-words2 .ensures ∙ c .before .round .ensures ∙ ap (roundOf _ _) (c .before .before .from-words .ensures ∙ g .1) ∙ rounds-more _ _ _ (g .0 .0))
+    (search needs, c .to-words .ensures ∙ c .before .round .ensures ∙ ap (roundOf _ _) (c .before .before .from-words .ensures ∙ g .1) ∙ rounds-more _ _ _ (g .0 .0))
 
 returns : tie.Need-returns Inv-loop μ-loop
 unfolding encrypted
 returns c =
     let e : c .before .before .before .loop .n - 1 ≡ 13 = omega arith in
-    rw (c .last-round .ensures, c .before .from-words2 .ensures, c .before .before .before .loop .inv .1, e, c .before .before .before .before .to-words .ensures, c .before .before .before .before .before .add-round-key .ensures)
+    rw (c .last-round .ensures, c .before .from-words2 .ensures, c .before .before .before .loop .inv .1, e, c .before .before .before .before .keyed-words .ensures)
 
 pub encrypt-spec : {M : Type 1} → statement M
 encrypt-spec =
     tie.close
     (tie.spec
-    Inv-loop μ-loop (λ c κs. search needs) (λ c κs. search needs) loop-holds (λ c κs. search needs) (λ c κs. search needs) (λ c κs. search needs) (λ c. search needs) (λ c. search needs) loop-again (λ c κs. search needs) (λ c κs. search needs)
+    Inv-loop μ-loop (λ c κs. search needs) loop-holds (λ c κs. search needs) (λ c κs. search needs) (λ c κs. search needs) (λ c. search needs) (λ c. search needs) loop-again (λ c κs. search needs) (λ c κs. search needs)
     returns)
