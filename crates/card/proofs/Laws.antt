@@ -11,29 +11,29 @@ use Rattle.span.specs.Span.{xored}
 use Rattle.span.proofs.Laws.{length-xored, xored-join, xored-twice}
 use Rattle.span.proofs.Stream.{stream-lt}
 use Rattle.span.proofs.Blocks.{UsedBlock, Enumerates, blocks-counted}
-use Rattle.card.specs.Traffic.{slotStream, trafficRefusal, trafficked, trafficBlocks}
+use Rattle.card.specs.Traffic.{slotStream, trafficRefusalOf, traffickedOf, trafficBlocksOf, trafficRefusal, trafficked, trafficBlocks}
 
 module _ (table : List Slot) (direction number : ℕ) (iv : List ℕ) where
   -- the refusal looks at the buffer's size alone
   same-size : (a b : List ℕ) (start n skip : ℕ) → length a ≡ length b
       → trafficRefusal table direction number iv a start n skip ≡ trafficRefusal table direction number iv b start n skip
-  unfolding trafficRefusal
+  unfolding trafficRefusalOf
   same-size a b start n skip e = rw e
 
   module _ (buf : List ℕ) (start n skip : ℕ) where
     pub traffic-accepted : trafficRefusal table direction number iv buf start n skip ≡ 0
         → trafficked table direction number iv buf start n skip ≡ xored buf (slotStream (slotAt table number) iv) start skip n
-    unfolding trafficked
+    unfolding traffickedOf
     traffic-accepted e = rw (eq-eqb _ 0 e)
 
     pub traffic-refused : (trafficRefusal table direction number iv buf start n skip ≡ 0 → ⊥) → trafficked table direction number iv buf start n skip ≡ buf
-    unfolding trafficked
+    unfolding traffickedOf
     traffic-refused ne = rw (ne-eqb _ 0 ne)
 
     -- the blocks of an accepted call are those that hold a used keystream bit, each counted once
     pub traffic-blocks : trafficRefusal table direction number iv buf start n skip ≡ 0
         → (l : List ℕ) × (length l ≡ trafficBlocks table direction number iv buf start n skip) × Enumerates (UsedBlock skip n) l
-    unfolding trafficBlocks
+    unfolding trafficBlocksOf
     traffic-blocks e = rw (eq-eqb _ 0 e) (blocks-counted skip n)
 
   -- the same call on the result, with the table as it was, brings the buffer back

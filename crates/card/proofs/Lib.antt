@@ -3,10 +3,12 @@ pub mod Passed
 pub mod Laws
 pub mod Values
 pub mod SlotLaws
-pub mod SlotTurns
-pub mod LocalArray
 pub mod Walk
 pub mod Shared
 pub mod CallRules
-pub mod TableCalls
-pub mod LentAnswers
+pub mod BadTurns
+pub mod Heads
+pub mod SeenTraffic
+pub mod SeenTables
+pub mod SlotCalls
+pub mod LentOn

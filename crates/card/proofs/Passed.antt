@@ -1,5 +1,5 @@
 -- What holds of a call that passed its tests. Assumes nothing.
-use mathlib.Core.Bool.{true, false, not, _||_}
+use mathlib.Core.Bool.{Bool, true, false, not, _||_}
 use mathlib.Core.Path.{_≡_}
 use mathlib.Core.List.{List}
 use Prim.Native.Nat.{ℕ, _+_, _*_, _<_, _≤_}
@@ -12,10 +12,10 @@ use Rattle.card.specs.Span.{spanRefusal}
 use Rattle.slots.specs.declared.Slot.{Slot}
 use Rattle.slots.specs.Slots.{hasBad, slotAt}
 use Rattle.slots.specs.Rights.{isDirection, includes}
-use Rattle.slots.specs.Calls.{slotRefusal}
-use Rattle.slots.proofs.Passed.{SlotPassed, slot-passed}
+use Rattle.slots.specs.Calls.{slotRefusalOf}
+use Rattle.slots.proofs.Passed.{SlotPassedOf, slot-passed-of}
 use Rattle.card.specs.Bench.{keyedRefusal}
-use Rattle.card.specs.Traffic.{onSide, useRefusal, trafficRefusal}
+use Rattle.card.specs.Traffic.{onSide, useRefusalOf, trafficRefusalOf, trafficRefusal}
 
 pub record SpanPassed (size start n skip : ℕ) : Type 0 where
   pub small : size ≤ 8192
@@ -52,43 +52,51 @@ keyed-passed algorithm key iv size start n skip e =
     }
 
 -- a slot's key may be used in this direction with this initial value
-pub record UsePassed (table : List Slot) (direction number : ℕ) (iv : List ℕ) : Type 0 where
-  pub good : hasBad table ≡ false
+pub record UsePassedOf (bad : Bool) (s : Slot) (direction number : ℕ) (iv : List ℕ) : Type 0 where
+  pub good : bad ≡ false
   pub known : isDirection direction ≡ true
-  pub slot : SlotPassed table number
-  pub included : includes (slotAt table number .fields .usage) direction ≡ true
+  pub slot : SlotPassedOf s number
+  pub included : includes (s .fields .usage) direction ≡ true
   pub iv-10 : length iv ≡ 10
-  pub on-side : onSide direction (slotAt table number .fields) iv ≡ true
+  pub on-side : onSide direction (s .fields) iv ≡ true
 
-pub use-passed : (table : List Slot) (direction number : ℕ) (iv : List ℕ) → useRefusal table direction number iv ≡ 0 → UsePassed table direction number iv
-unfolding useRefusal
-use-passed table direction number iv e =
-    let f = slotAt table number .fields in
-    let good = unpicked (hasBad table) 16 _ (lit< tt) e in
+pub use-passed-of : (bad : Bool) (s : Slot) (direction number : ℕ) (iv : List ℕ) → useRefusalOf bad s direction number iv ≡ 0 → UsePassedOf bad s direction number iv
+unfolding useRefusalOf
+use-passed-of bad s direction number iv e =
+    let good = unpicked bad 16 _ (lit< tt) e in
     let known = unpicked (not (isDirection direction)) 10 _ (lit< tt) (good .1) in
-    let slot = unpicked-own (slotRefusal table number) _ (known .1) in
-    let included = unpicked (not (includes (f .usage) direction)) 12 _ (lit< tt) (slot .1) in
+    let slot = unpicked-own (slotRefusalOf s number) _ (known .1) in
+    let included = unpicked (not (includes (s .fields .usage) direction)) 12 _ (lit< tt) (slot .1) in
     let ten = unpicked (not (eqb (length iv) 10)) 3 _ (lit< tt) (included .1) in
-    let side = unpicked (not (onSide direction f iv)) 13 _ (lit< tt) (ten .1) in
+    let side = unpicked (not (onSide direction (s .fields) iv)) 13 _ (lit< tt) (ten .1) in
     record {
       good = good .0;
       known = not-false (isDirection direction) (known .0);
-      slot = slot-passed table number (eqb-true (slotRefusal table number) 0 (slot .0));
-      included = not-false (includes (f .usage) direction) (included .0);
+      slot = slot-passed-of s number (eqb-true (slotRefusalOf s number) 0 (slot .0));
+      included = not-false (includes (s .fields .usage) direction) (included .0);
       iv-10 = eqb-true (length iv) 10 (not-false (eqb (length iv) 10) (ten .0));
-      on-side = not-false (onSide direction f iv) (side .0);
+      on-side = not-false (onSide direction (s .fields) iv) (side .0);
     }
 
-pub record TrafficPassed (table : List Slot) (direction number : ℕ) (iv buf : List ℕ) (start n skip : ℕ) : Type 0 where
-  pub allowed : UsePassed table direction number iv
+pub record TrafficPassedOf (bad : Bool) (s : Slot) (direction number : ℕ) (iv buf : List ℕ) (start n skip : ℕ) : Type 0 where
+  pub allowed : UsePassedOf bad s direction number iv
   pub span : SpanPassed (length buf) start n skip
+
+pub traffic-passed-of : (bad : Bool) (s : Slot) (direction number : ℕ) (iv buf : List ℕ) (start n skip : ℕ)
+    → trafficRefusalOf bad s direction number iv buf start n skip ≡ 0 → TrafficPassedOf bad s direction number iv buf start n skip
+unfolding trafficRefusalOf
+traffic-passed-of bad s direction number iv buf start n skip e =
+    let opened = unpicked-own (useRefusalOf bad s direction number iv) _ e in
+    record {
+      allowed = use-passed-of bad s direction number iv (eqb-true (useRefusalOf bad s direction number iv) 0 (opened .0));
+      span = span-passed (length buf) start n skip (opened .1);
+    }
+
+-- the same of a table
+
+abbrev pub TrafficPassed : List Slot → ℕ → ℕ → List ℕ → List ℕ → ℕ → ℕ → ℕ → Type 0
+TrafficPassed table direction number iv buf start n skip = TrafficPassedOf (hasBad table) (slotAt table number) direction number iv buf start n skip
 
 pub traffic-passed : (table : List Slot) (direction number : ℕ) (iv buf : List ℕ) (start n skip : ℕ)
     → trafficRefusal table direction number iv buf start n skip ≡ 0 → TrafficPassed table direction number iv buf start n skip
-unfolding trafficRefusal
-traffic-passed table direction number iv buf start n skip e =
-    let opened = unpicked-own (useRefusal table direction number iv) _ e in
-    record {
-      allowed = use-passed table direction number iv (eqb-true (useRefusal table direction number iv) 0 (opened .0));
-      span = span-passed (length buf) start n skip (opened .1);
-    }
+traffic-passed table direction number iv buf start n skip e = traffic-passed-of (hasBad table) (slotAt table number) direction number iv buf start n skip e

@@ -15,7 +15,7 @@ use Rattle.tea.specs.Algorithm.{combining}
 use Rattle.tea.specs.Mixing.{mixedByte, mixedValue}
 use Rattle.span.specs.Span.{blocksUsed}
 use Rattle.slots.specs.Slots.{allZero, isEmpty, isFilled, isBad, hasBad}
-use Rattle.slots.specs.Calls.{moveRefusal}
+use Rattle.slots.specs.Calls.{moveRefusalOf, moveRefusal}
 use Rattle.slots.proofs.Rows.{one}
 use Rattle.records.specs.declared.RecordRead.{RecordRead}
 use Rattle.records.specs.Text.{ascii, digitsWithin, digits, useWord, hexDigit, hexText, recordText}
@@ -99,5 +99,5 @@ at-row (r ∷ rows) t (suc k) h = at-row rows (pass-right (same (r .given) (r .s
 
 -- every row of the table holds
 pub p-values : (k : ℕ) → k < length pTable → getD pTable k (row [] []) .given ≡ getD pTable k (row [] []) .said
-unfolding pTable allSame same times inverse affine sBox combining fTea6 mixedByte mixedValue sequence window tabulate blocksUsed moveRefusal hasBad isBad isFilled isEmpty allZero planOf planRefusal plannedPieces digitsWithin digits useWord hexDigit hexText recordText readAt _>>=_ literal mayBegin mayFollow afterWithin after decimal useForm isHex hexValue byte bytes keyForm recordForm recordRead
+unfolding pTable allSame same times inverse affine sBox combining fTea6 mixedByte mixedValue sequence window tabulate blocksUsed moveRefusalOf hasBad isBad isFilled isEmpty allZero planOf planRefusal plannedPieces digitsWithin digits useWord hexDigit hexText recordText readAt _>>=_ literal mayBegin mayFollow afterWithin after decimal useForm isHex hexValue byte bytes keyForm recordForm recordRead
 p-values = at-row pTable tt

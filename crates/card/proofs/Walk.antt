@@ -10,7 +10,7 @@ unfoldable pub use contract.Running.{tablesOf}
 pub use denote.Array.{Array}
 pub use denote.Builtin.{u16, u64, u8, usize}
 pub use denote.Exit.{yes}
-pub use denote.Index.{closes-slice, elem-back, elem-out, elem-put, looks-slice, opens-slice, place-is, row, shuts-slice}
+pub use denote.Index.{closes-slice, elem-back, elem-out, elem-put, looks-slice, opens-slice, place-is, shuts-slice}
 pub use denote.Laws.{Is, shows}
 pub use denote.Lend.{Held}
 pub use denote.Memory.{pointee}

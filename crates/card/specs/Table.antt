@@ -1,46 +1,49 @@
--- The slot calls on a lent list of slot records (document 01, "Slots and rights"): refused with 16, and nothing changed, unless there are 32.
--- Assumes nothing: these are definitions.
-use mathlib.Core.Bool.{Bool}
+-- The slot calls on a lent list of slot records (document 01, "Slots and rights"): by the orders of the calls on a table, where a list that
+-- is no table counts as a bad one. Assumes nothing: these are definitions.
+use mathlib.Core.Bool.{Bool, _&&_, _||_, not}
 use mathlib.Core.List.{List}
-use Prim.Native.Nat.{ℕ}
-use lib.Dec.{eqb}
-use lib.ListN.{length, replicate}
+use Prim.Native.Nat.{ℕ, _-_}
+use lib.Dec.{eqb, ltb}
+use lib.ListN.{length, getD, set}
 use Rattle.laws.specs.Choice.{pick}
-use Rattle.refusals.specs.Numbers.{tableBad}
+use Rattle.refusals.specs.Numbers.{done}
 use Rattle.fields.specs.declared.Asked.{Asked}
 use Rattle.slots.specs.declared.Slot.{Slot}
 use Rattle.slots.specs.declared.Changed.{Changed}
 use Rattle.slots.specs.declared.Shown.{Shown}
-use Rattle.slots.specs.Slots.{noFields}
-use Rattle.slots.specs.Calls.{loaded, moved, cleared, shown}
-use Rattle.card.specs.Traffic.{trafficRefusal, trafficked, trafficBlocks}
+use Rattle.slots.specs.declared.Put.{Put}
+use Rattle.fields.specs.Fields.{isSlotNumber}
+use Rattle.slots.specs.Slots.{hasBad, empty, nil, slotAt}
+use Rattle.slots.specs.Calls.{loadedBy, movedBy, clearedBy, shownOf}
+use Rattle.card.specs.Traffic.{trafficRefusalOf, traffickedOf, trafficBlocksOf}
 
 abbrev pub isTable : List Slot → Bool
 isTable t = eqb (length t) 32
 
-abbrev pub changedIn : List Slot → Changed → Changed
-changedIn t answer = pick (isTable t) answer (record { refusal = tableBad; table = t })
+-- refusal 16: not 32 records, or a bad slot among them
+abbrev pub isNoTable : List Slot → Bool
+isNoTable t = not (isTable t) || hasBad t
 
 abbrev pub loadedIn : List Slot → ℕ → Asked → List ℕ → Changed
-loadedIn t number a key = changedIn t (loaded t number a key)
+loadedIn t number a key = loadedBy (isNoTable t) t number a key
 
 abbrev pub movedIn : List Slot → ℕ → ℕ → ℕ → Changed
-movedIn t from to asked = changedIn t (moved t from to asked)
+movedIn t from to asked = movedBy (isNoTable t) t from to asked
 
 abbrev pub clearedIn : List Slot → ℕ → Changed
-clearedIn t number = changedIn t (cleared t number)
+clearedIn t number = clearedBy (isNoTable t) t number
 
 abbrev pub shownIn : List Slot → ℕ → Shown
-shownIn t number = pick (isTable t) (shown t number) (record { refusal = tableBad; number = 0; fields = noFields })
+shownIn t number = shownOf (isNoTable t) (slotAt t number) number
 
 abbrev pub trafficRefusalIn : List Slot → ℕ → ℕ → List ℕ → List ℕ → ℕ → ℕ → ℕ → ℕ
-trafficRefusalIn t direction number iv buf start n skip = pick (isTable t) (trafficRefusal t direction number iv buf start n skip) tableBad
+trafficRefusalIn t direction number iv buf start n skip = trafficRefusalOf (isNoTable t) (slotAt t number) direction number iv buf start n skip
 
 abbrev pub traffickedIn : List Slot → ℕ → ℕ → List ℕ → List ℕ → ℕ → ℕ → ℕ → List ℕ
-traffickedIn t direction number iv buf start n skip = pick (isTable t) (trafficked t direction number iv buf start n skip) buf
+traffickedIn t direction number iv buf start n skip = traffickedOf (isNoTable t) (slotAt t number) direction number iv buf start n skip
 
 abbrev pub trafficBlocksIn : List Slot → ℕ → ℕ → List ℕ → List ℕ → ℕ → ℕ → ℕ → ℕ
-trafficBlocksIn t direction number iv buf start n skip = pick (isTable t) (trafficBlocks t direction number iv buf start n skip) 0
+trafficBlocksIn t direction number iv buf start n skip = trafficBlocksOf (isNoTable t) (slotAt t number) direction number iv buf start n skip
 
 -- the answer to a read, part by part, as its caller has it
 abbrev pub shownAs : ℕ → ℕ → ℕ → ℕ → ℕ → ℕ → ℕ → Shown
@@ -50,16 +53,18 @@ shownAs refusal number version algorithm usage side place = record {
   fields = record { version = version; algorithm = algorithm; usage = usage; side = side; place = place };
 }
 
--- How the code does it: a list that is no table is read as a table of bad slots, which every call refuses with 16, and is not written to.
+-- How the code works on the list where it lies: it reads the slot of a number, an empty one where there is none, and stores one slot.
 
-abbrev pub badSlot : Slot
-badSlot = record { fields = record { version = 0; algorithm = 1; usage = 0; side = 0; place = 0 }; key = replicate 24 0 }
+-- past the end unless there are 32 records and the number is a slot's
+abbrev pub placeOf : ℕ → ℕ → ℕ
+placeOf count number = pick (eqb count 32 && isSlotNumber number) (number - 1) count
 
-abbrev pub badTable : List Slot
-badTable = replicate 32 badSlot
+abbrev pub slotIn : List Slot → ℕ → Slot
+slotIn t number = pick (ltb (placeOf (length t) number) (length t)) (getD t (placeOf (length t) number) nil) empty
 
-abbrev pub tableIn : List Slot → List Slot
-tableIn t = pick (isTable t) t badTable
+-- past the end after a refusal
+abbrev pub placeTo : ℕ → ℕ → Put → ℕ
+placeTo count number put = pick (eqb (put .refusal) done) (placeOf count number) count
 
-abbrev pub tableOut : List Slot → Changed → List Slot
-tableOut t answer = pick (isTable t) (answer .table) t
+abbrev pub putIn : List Slot → ℕ → Put → List Slot
+putIn t number put = pick (ltb (placeTo (length t) number put) (length t)) (set t (placeTo (length t) number put) (put .slot)) t

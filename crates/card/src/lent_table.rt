@@ -1,66 +1,90 @@
-// A lent list of slot records as a table, and a table back into the list.
+// The calls' view of a lent list of slot records: the slots are tested where they lie, and only the one that is asked for is copied.
 ghost use mathlib.Core.Path.{_≡_};
-ghost use Rattle.card.specs.Table.{badTable, tableIn, tableOut};
-use fields::Fields;
-use slots::Changed;
+ghost use mathlib.Core.Bool.{_||_};
+ghost use Rattle.slots.specs.Slots.{isBad};
+ghost use Rattle.card.specs.Table.{isNoTable, placeOf, slotIn, placeTo, putIn};
+use slots::Put;
 use slots::Slot;
 
-// A slot that is neither empty nor filled, thirty-two times.
-fn bad_table() -> [Slot; 32]
-    ensures { λ r. ⌜ r ≡ badTable ⌝ }
+fn or_bad(bad: bool, slot: Slot) -> bool
+    ensures { λ r. ⌜ r ≡ bad || isBad slot ⌝ }
 {
-    let fields = Fields {
-        version: 0,
-        algorithm: 1,
-        usage: 0,
-        side: 0,
-        place: 0,
-    };
-    let slot = Slot {
-        fields,
-        key: [0u8; 24],
-    };
-    [slot; 32]
+    bad || slots::is_bad(slot)
 }
 
-// The lent records as a table. Any other number of them than 32 gives a bad table, which every call refuses as document 01 asks.
-pub fn table_of(t: &[Slot]) -> [Slot; 32]
-    ensures { λ r. ⌜ r ≡ tableIn (now (t .entry)) ⌝ }
+// Whether the lent records are no table: there is another number of them than 32, or one is neither empty nor filled.
+pub fn is_no_table(t: &[Slot]) -> bool
+    ensures { λ r. ⌜ r ≡ isNoTable (now (t .entry)) ⌝ }
 {
-    let mut table = bad_table();
+    let mut bad = true;
     if t.len() == 32 {
+        bad = false;
         let mut i: usize = 0;
         while i < 32 {
-            table[i] = t[i];
+            if !slots::is_filled(t[i]) {
+                let worse = or_bad(bad, t[i]);
+                bad = worse;
+            }
             i += 1;
         }
     }
-    table
+    bad
 }
 
-fn table_in(c: Changed) -> [Slot; 32]
-    ensures { λ r. ⌜ r ≡ c .table ⌝ }
+// Where the slot of a number stands among this many records: past their end if there is none.
+fn place_of(count: usize, number: u64) -> usize
+    ensures { λ r. ⌜ r ≡ placeOf count number ⌝ }
 {
-    c.table
-}
-
-fn refusal_of(c: Changed) -> u8
-    ensures { λ r. ⌜ r ≡ c .refusal ⌝ }
-{
-    c.refusal
-}
-
-// The table goes back to where it was lent from, and the answer to the caller.
-pub fn put_changed(t: &mut [Slot], c: Changed) -> u8
-    ensures { λ r. ⌜ (r ≡ c .refusal) × (now (t .exit) ≡ tableOut (now (t .entry)) c) ⌝ }
-{
-    if t.len() == 32 {
-        let table = table_in(c);
-        let mut i: usize = 0;
-        while i < 32 {
-            t[i] = table[i];
-            i += 1;
-        }
+    if count != 32 {
+        return count;
     }
-    refusal_of(c)
+    if !fields::is_slot_number(number) {
+        return count;
+    }
+    (number - 1) as usize
+}
+
+// The slot of a number; an empty one if there is none.
+pub fn slot_in(t: &[Slot], number: u64) -> Slot
+    ensures { λ r. ⌜ r ≡ slotIn (now (t .entry)) number ⌝ }
+{
+    let mut slot = slots::empty_slot();
+    let i = place_of(t.len(), number);
+    if i < t.len() {
+        slot = t[i];
+    }
+    slot
+}
+
+fn slot_of(put: Put) -> Slot
+    ensures { λ r. ⌜ r ≡ put .slot ⌝ }
+{
+    put.slot
+}
+
+fn refusal_of(put: Put) -> u8
+    ensures { λ r. ⌜ r ≡ put .refusal ⌝ }
+{
+    put.refusal
+}
+
+// Where a slot is put: past the end if there is no such slot, or the call is refused.
+fn place_to(count: usize, number: u64, put: Put) -> usize
+    ensures { λ r. ⌜ r ≡ placeTo count number put ⌝ }
+{
+    if put.refusal != refusals::DONE {
+        return count;
+    }
+    place_of(count, number)
+}
+
+// The slot goes to its place, and the answer to the caller.
+pub fn put_slot(t: &mut [Slot], number: u64, put: Put) -> u8
+    ensures { λ r. ⌜ (r ≡ put .refusal) × (now (t .exit) ≡ putIn (now (t .entry)) number put) ⌝ }
+{
+    let i = place_to(t.len(), number, put);
+    if i < t.len() {
+        t[i] = slot_of(put);
+    }
+    refusal_of(put)
 }

@@ -1,18 +1,21 @@
 // The slot calls on a table that the caller lends: 32 slot records behind a pointer.
 ghost use mathlib.Core.Path.{_≡_};
-ghost use Rattle.slots.specs.Calls.{loaded, shown};
+ghost use Rattle.slots.specs.Calls.{shownOf};
+ghost use Rattle.slots.specs.Seen.{loadPut};
 ghost use Rattle.card.specs.Faces.{asking};
 ghost use Rattle.card.specs.Table.{loadedIn, movedIn, clearedIn, shownAs, shownIn, trafficRefusalIn, traffickedIn, trafficBlocksIn};
-ghost use Rattle.card.specs.Traffic.{trafficRefusal, trafficked, trafficBlocks};
-use crate::lent_table::put_changed;
-use crate::lent_table::table_of;
-use crate::traffic::traffic;
+ghost use Rattle.card.specs.Traffic.{trafficRefusalOf, traffickedOf, trafficBlocksOf};
+use crate::lent_table::is_no_table;
+use crate::lent_table::put_slot;
+use crate::lent_table::slot_in;
+use crate::traffic::traffic_of;
 use fields::Asked;
-use slots::Changed;
+use slots::Put;
 use slots::Slot;
 
 fn load_from(
-    table: [Slot; 32],
+    bad: bool,
+    slot: Slot,
     number: u64,
     version: u16,
     algorithm: u64,
@@ -20,8 +23,8 @@ fn load_from(
     side: u64,
     place: u64,
     key: &[u8; 24],
-) -> Changed
-    ensures { λ r. ⌜ r ≡ loaded table number (asking version algorithm usage side place) (now (key .entry)) ⌝ }
+) -> Put
+    ensures { λ r. ⌜ r ≡ loadPut bad slot number (asking version algorithm usage side place) (now (key .entry)) ⌝ }
 {
     let asked = Asked {
         version,
@@ -31,7 +34,7 @@ fn load_from(
         place,
     };
     let k = *key;
-    slots::load(table, number, asked, k)
+    slots::load_of(bad, slot, number, asked, k)
 }
 
 // Fills an empty slot.
@@ -48,8 +51,9 @@ pub extern "C" fn card_load(
 ) -> u8
     ensures { λ r. ⌜ (r ≡ loadedIn (now (t .entry)) number (asking version algorithm usage side place) (now (key .entry)) .refusal) × (now (t .exit) ≡ loadedIn (now (t .entry)) number (asking version algorithm usage side place) (now (key .entry)) .table) ⌝ }
 {
-    let c = load_from(
-        table_of(t),
+    let put = load_from(
+        is_no_table(t),
+        slot_in(t, number),
         number,
         version,
         algorithm,
@@ -58,7 +62,7 @@ pub extern "C" fn card_load(
         place,
         key,
     );
-    put_changed(t, c)
+    put_slot(t, number, put)
 }
 
 // Carries a filled slot to an empty one, with a use that lies within the present one.
@@ -66,8 +70,16 @@ pub extern "C" fn card_load(
 pub extern "C" fn card_move(t: &mut [Slot], from: u64, to: u64, asked: u64) -> u8
     ensures { λ r. ⌜ (r ≡ movedIn (now (t .entry)) from to asked .refusal) × (now (t .exit) ≡ movedIn (now (t .entry)) from to asked .table) ⌝ }
 {
-    let c = slots::move_slot(table_of(t), from, to, asked);
-    put_changed(t, c)
+    let put = slots::move_of(
+        is_no_table(t),
+        slot_in(t, from),
+        slot_in(t, to),
+        from,
+        to,
+        asked,
+    );
+    put_slot(t, to, put);
+    put_slot(t, from, slots::emptied(put))
 }
 
 // Empties a filled slot.
@@ -75,12 +87,13 @@ pub extern "C" fn card_move(t: &mut [Slot], from: u64, to: u64, asked: u64) -> u
 pub extern "C" fn card_clear(t: &mut [Slot], number: u64) -> u8
     ensures { λ r. ⌜ (r ≡ clearedIn (now (t .entry)) number .refusal) × (now (t .exit) ≡ clearedIn (now (t .entry)) number .table) ⌝ }
 {
-    let c = slots::clear(table_of(t), number);
-    put_changed(t, c)
+    let put = slots::clear_of(is_no_table(t), slot_in(t, number), number);
+    put_slot(t, number, put)
 }
 
 fn show_from<'a>(
-    table: [Slot; 32],
+    bad: bool,
+    slot: Slot,
     number: u64,
     there: &'a mut u64,
     version: &'a mut u16,
@@ -89,9 +102,9 @@ fn show_from<'a>(
     side: &'a mut u8,
     place: &'a mut u8,
 ) -> u8
-    ensures { λ r. ⌜ shownAs r (now (there .exit)) (now (version .exit)) (now (algorithm .exit)) (now (usage .exit)) (now (side .exit)) (now (place .exit)) ≡ shown table number ⌝ }
+    ensures { λ r. ⌜ shownAs r (now (there .exit)) (now (version .exit)) (now (algorithm .exit)) (now (usage .exit)) (now (side .exit)) (now (place .exit)) ≡ shownOf bad slot number ⌝ }
 {
-    let s = slots::read(table, number);
+    let s = slots::read_of(bad, slot, number);
     let f = s.fields;
     *there = s.number;
     *version = f.version;
@@ -117,7 +130,8 @@ pub extern "C" fn card_read<'a>(
     ensures { λ r. ⌜ shownAs r (now (there .exit)) (now (version .exit)) (now (algorithm .exit)) (now (usage .exit)) (now (side .exit)) (now (place .exit)) ≡ shownIn (now (t .entry)) number ⌝ }
 {
     show_from(
-        table_of(t),
+        is_no_table(t),
+        slot_in(t, number),
         number,
         there,
         version,
@@ -129,7 +143,8 @@ pub extern "C" fn card_read<'a>(
 }
 
 fn traffic_from<'a>(
-    table: [Slot; 32],
+    bad: bool,
+    slot: Slot,
     direction: u64,
     number: u64,
     iv: &'a [u8],
@@ -139,9 +154,9 @@ fn traffic_from<'a>(
     skip: usize,
     blocks: &'a mut usize,
 ) -> u8
-    ensures { λ r. ⌜ (r ≡ trafficRefusal table direction number (now (iv .entry)) (now (buf .entry)) start n skip) × (now (buf .exit) ≡ trafficked table direction number (now (iv .entry)) (now (buf .entry)) start n skip) × (now (blocks .exit) ≡ trafficBlocks table direction number (now (iv .entry)) (now (buf .entry)) start n skip) ⌝ }
+    ensures { λ r. ⌜ (r ≡ trafficRefusalOf bad slot direction number (now (iv .entry)) (now (buf .entry)) start n skip) × (now (buf .exit) ≡ traffickedOf bad slot direction number (now (iv .entry)) (now (buf .entry)) start n skip) × (now (blocks .exit) ≡ trafficBlocksOf bad slot direction number (now (iv .entry)) (now (buf .entry)) start n skip) ⌝ }
 {
-    let report = traffic(table, direction, number, iv, buf, start, n, skip);
+    let report = traffic_of(bad, slot, direction, number, iv, buf, start, n, skip);
     *blocks = report.blocks;
     report.refusal
 }
@@ -162,7 +177,8 @@ pub extern "C" fn card_traffic<'a>(
     ensures { λ r. ⌜ (r ≡ trafficRefusalIn (now (t .entry)) direction number (now (iv .entry)) (now (buf .entry)) start n skip) × (now (buf .exit) ≡ traffickedIn (now (t .entry)) direction number (now (iv .entry)) (now (buf .entry)) start n skip) × (now (blocks .exit) ≡ trafficBlocksIn (now (t .entry)) direction number (now (iv .entry)) (now (buf .entry)) start n skip) ⌝ }
 {
     traffic_from(
-        table_of(t),
+        is_no_table(t),
+        slot_in(t, number),
         direction,
         number,
         iv,

@@ -1,10 +1,11 @@
 // Traffic with a slot's key, on any run of bits of a lent buffer.
 ghost use mathlib.Core.Path.{_≡_};
 ghost use Rattle.laws.specs.Bits.{bitAt};
-ghost use Rattle.card.specs.Traffic.{onSide, useRefusal, trafficRefusal, trafficked, trafficBlocks};
+ghost use Rattle.card.specs.Traffic.{onSide, useRefusalOf, trafficRefusalOf, traffickedOf, trafficBlocksOf, trafficRefusal, trafficked, trafficBlocks};
 use crate::lent::iv_of;
 use crate::span_tests::span_refusal;
 use fields::Fields;
+use refusals::refuse;
 use slots::Slot;
 
 const SEND: u64 = 1;
@@ -38,36 +39,42 @@ fn on_side(direction: u64, f: Fields, iv: &[u8]) -> bool
 }
 
 // Refusals 16, 10, 7, 8, 12, 3, 13, in this order.
-fn use_refusal(table: [Slot; 32], direction: u64, number: u64, iv: &[u8]) -> u8
-    ensures { λ r. ⌜ r ≡ useRefusal table direction number (now (iv .entry)) ⌝ }
+fn use_refusal(bad: bool, slot: Slot, direction: u64, number: u64, iv: &[u8]) -> u8
+    ensures { λ r. ⌜ r ≡ useRefusalOf bad slot direction number (now (iv .entry)) ⌝ }
 {
-    if slots::table_is_bad(table) {
-        return refusals::TABLE;
-    }
-    if !slots::is_direction(direction) {
-        return refusals::CODE;
-    }
-    let slot_refusal = slots::slot_refusal(table, number);
-    if slot_refusal != refusals::DONE {
-        return slot_refusal;
-    }
-    let slot = slots::slot_at(table, number);
     let f = slot.fields;
-    if !slots::use_includes(f.usage, direction) {
-        return refusals::DIRECTION;
-    }
-    if iv.len() != 10 {
-        return refusals::IV_SIZE;
-    }
-    if !on_side(direction, f, iv) {
-        return refusals::IV_SIDE;
-    }
-    refusals::DONE
+    let slot_refusal = slots::slot_refusal(slot, number);
+    refuse(
+        bad,
+        refusals::TABLE,
+        refuse(
+            !slots::is_direction(direction),
+            refusals::CODE,
+            refuse(
+                slot_refusal != refusals::DONE,
+                slot_refusal,
+                refuse(
+                    !slots::use_includes(f.usage, direction),
+                    refusals::DIRECTION,
+                    refuse(
+                        iv.len() != 10,
+                        refusals::IV_SIZE,
+                        refuse(
+                            !on_side(direction, f, iv),
+                            refusals::IV_SIDE,
+                            refusals::DONE,
+                        ),
+                    ),
+                ),
+            ),
+        ),
+    )
 }
 
 // Refusals 16, 10, 7, 8, 12, 3, 13, 5, 4, 6, in this order.
 fn traffic_refusal(
-    table: [Slot; 32],
+    bad: bool,
+    slot: Slot,
     direction: u64,
     number: u64,
     iv: &[u8],
@@ -76,16 +83,42 @@ fn traffic_refusal(
     n: usize,
     skip: usize,
 ) -> u8
-    ensures { λ r. ⌜ r ≡ trafficRefusal table direction number (now (iv .entry)) (now (buf .entry)) start n skip ⌝ }
+    ensures { λ r. ⌜ r ≡ trafficRefusalOf bad slot direction number (now (iv .entry)) (now (buf .entry)) start n skip ⌝ }
 {
-    let refusal = use_refusal(table, direction, number, iv);
-    if refusal != refusals::DONE {
-        return refusal;
-    }
-    span_refusal(buf.len(), start, n, skip)
+    let use_refusal = use_refusal(bad, slot, direction, number, iv);
+    refuse(
+        use_refusal != refusals::DONE,
+        use_refusal,
+        span_refusal(buf.len(), start, n, skip),
+    )
 }
 
 // Buffer bit start + i becomes itself xor keystream bit skip + i, for i below n; every other bit stays. Reports how many blocks were made.
+pub fn traffic_of(
+    bad: bool,
+    slot: Slot,
+    direction: u64,
+    number: u64,
+    iv: &[u8],
+    buf: &mut [u8],
+    start: usize,
+    n: usize,
+    skip: usize,
+) -> Report
+    ensures { λ r. ⌜ (r .refusal ≡ trafficRefusalOf bad slot direction number (now (iv .entry)) (now (buf .entry)) start n skip) × (r .blocks ≡ trafficBlocksOf bad slot direction number (now (iv .entry)) (now (buf .entry)) start n skip) × (now (buf .exit) ≡ traffickedOf bad slot direction number (now (iv .entry)) (now (buf .entry)) start n skip) ⌝ }
+{
+    let refusal = traffic_refusal(bad, slot, direction, number, iv, &buf[..], start, n, skip);
+    if refusal != refusals::DONE {
+        return Report { refusal, blocks: 0 };
+    }
+    let f = slot.fields;
+    let key = slot.key;
+    keystream::xor_keystream(buf, start, n, skip, f.algorithm as u64, key, iv_of(iv));
+    let blocks = span::blocks_used(skip, n);
+    Report { refusal, blocks }
+}
+
+// The same on a table by value.
 pub fn traffic(
     table: [Slot; 32],
     direction: u64,
@@ -98,14 +131,7 @@ pub fn traffic(
 ) -> Report
     ensures { λ r. ⌜ (r .refusal ≡ trafficRefusal table direction number (now (iv .entry)) (now (buf .entry)) start n skip) × (r .blocks ≡ trafficBlocks table direction number (now (iv .entry)) (now (buf .entry)) start n skip) × (now (buf .exit) ≡ trafficked table direction number (now (iv .entry)) (now (buf .entry)) start n skip) ⌝ }
 {
-    let refusal = traffic_refusal(table, direction, number, iv, &buf[..], start, n, skip);
-    if refusal != refusals::DONE {
-        return Report { refusal, blocks: 0 };
-    }
-    let slot = slots::slot_at(table, number);
-    let f = slot.fields;
-    let key = slot.key;
-    keystream::xor_keystream(buf, start, n, skip, f.algorithm as u64, key, iv_of(iv));
-    let blocks = span::blocks_used(skip, n);
-    Report { refusal, blocks }
+    let bad = slots::table_is_bad(table);
+    let slot = slots::slot_or_empty(table, number);
+    traffic_of(bad, slot, direction, number, iv, buf, start, n, skip)
 }

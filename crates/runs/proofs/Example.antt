@@ -7,10 +7,10 @@ use lib.ListN.{replicate}
 use Rattle.laws.specs.Bits.{bitOf, bitAt}
 use Rattle.fields.specs.declared.Asked.{Asked}
 use Rattle.slots.specs.Slots.{allZero, isEmpty, isFilled, isBad, hasBad}
-use Rattle.slots.specs.Calls.{loadRefusal, moveRefusal, slotRefusal, clearRefusal}
+use Rattle.slots.specs.Calls.{loadRefusalOf, moveRefusalOf, slotRefusalOf, clearRefusalOf}
 use Rattle.span.specs.Span.{blocksUsed}
 use Rattle.card.specs.Span.{spanRefusal}
-use Rattle.card.specs.Traffic.{useRefusal, trafficRefusal, trafficBlocks}
+use Rattle.card.specs.Traffic.{useRefusalOf, trafficRefusalOf, trafficBlocksOf}
 use Rattle.runs.specs.Calls.{Call, load, move, clear, read, traffic}
 use Rattle.runs.specs.Card.{ourCard}
 use Rattle.runs.specs.Step.{Seen, step}
@@ -49,14 +49,14 @@ example key other =
 
 module _ (key other : List ℕ) where
   pub refusals : map (λ (x : Seen). x .refusal) (run ourCard start (example key other)) ≡ 0 ∷ 0 ∷ 0 ∷ 12 ∷ 13 ∷ 0 ∷ 0 ∷ 14 ∷ 0 ∷ 0 ∷ 8 ∷ []
-  unfolding run next step traced loadRefusal moveRefusal slotRefusal clearRefusal useRefusal trafficRefusal spanRefusal hasBad isBad isFilled isEmpty allZero bitAt bitOf
+  unfolding run next step traced loadRefusalOf moveRefusalOf slotRefusalOf clearRefusalOf useRefusalOf trafficRefusalOf spanRefusal hasBad isBad isFilled isEmpty allZero bitAt bitOf
   refusals = refl
 
   pub blocks : map (λ (x : Seen). x .blocks) (run ourCard start (example key other)) ≡ 0 ∷ 0 ∷ 0 ∷ 0 ∷ 0 ∷ 1 ∷ 2 ∷ 0 ∷ 0 ∷ 0 ∷ 0 ∷ []
-  unfolding run next step traced loadRefusal moveRefusal slotRefusal clearRefusal useRefusal trafficRefusal trafficBlocks blocksUsed spanRefusal hasBad isBad isFilled isEmpty allZero bitAt bitOf
+  unfolding run next step traced loadRefusalOf moveRefusalOf slotRefusalOf clearRefusalOf useRefusalOf trafficRefusalOf trafficBlocksOf blocksUsed spanRefusal hasBad isBad isFilled isEmpty allZero bitAt bitOf
   blocks = refl
 
   -- the key of the accepted send, call 5, comes from the load at place 0
   pub origin : traceAt ourCard (example key other) 5 3 ≡ some 0
-  unfolding run next step stateAt traced loadRefusal moveRefusal slotRefusal clearRefusal useRefusal trafficRefusal spanRefusal hasBad isBad isFilled isEmpty allZero bitAt bitOf
+  unfolding run next step stateAt traced loadRefusalOf moveRefusalOf slotRefusalOf clearRefusalOf useRefusalOf trafficRefusalOf spanRefusal hasBad isBad isFilled isEmpty allZero bitAt bitOf
   origin = refl

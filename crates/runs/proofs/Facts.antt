@@ -21,7 +21,7 @@ use Rattle.slots.proofs.Alike.{Alike, AlikeChanged, bad-alike, fields-alike, sl
 use Rattle.span.proofs.Within.{Beside}
 use Rattle.span.proofs.Laws.{length-xored, xored-outside}
 use Rattle.span.proofs.Stream.{stream-lt}
-use Rattle.card.specs.Traffic.{onSide, slotStream, useRefusal, trafficRefusal, trafficBlocks, trafficked}
+use Rattle.card.specs.Traffic.{onSide, slotStream, useRefusalOf, trafficRefusalOf, trafficBlocksOf, traffickedOf, trafficRefusal}
 use Rattle.card.proofs.Laws.{traffic-refused}
 use Rattle.card.proofs.Passed.{traffic-passed}
 use Rattle.runs.specs.Card.{ourCard}
@@ -106,22 +106,22 @@ on-a-filled-slot : Taken ourCard (λ table direction number iv. SlotPassed table
 on-a-filled-slot table direction number iv buf start n skip e = traffic-passed table direction number iv buf start n skip e .allowed .slot
 
 refusal-blind : Blind (ourCard .refusal)
-unfolding trafficRefusal useRefusal
+unfolding trafficRefusalOf useRefusalOf
 refusal-blind a b alike direction number iv buf start n skip =
     rw (bad-alike a b alike, slot-refusal-alike a b alike number, fields-alike a b alike number)
 
 blocks-blind : Blind (ourCard .blocks)
-unfolding trafficBlocks
+unfolding trafficBlocksOf
 blocks-blind a b alike direction number iv buf start n skip = rw (refusal-blind a b alike direction number iv buf start n skip)
 
 beside-stays : (table : List Slot) (direction number : ℕ) (iv buf : List ℕ) (start n skip j : ℕ) → Beside start n j → bitAt (ourCard .buffer table direction number iv buf start n skip) j ≡ bitAt buf j
-unfolding trafficked
+unfolding traffickedOf
 beside-stays table direction number iv buf start n skip j beside =
     pick-cases (λ (l : List ℕ). bitAt l j ≡ bitAt buf j) (eqb (trafficRefusal table direction number iv buf start n skip) done)
     (λ e. xored-outside (slotStream (slotAt table number) iv) (stream-lt _) buf start skip n j beside) (λ e. refl)
 
 size-stays : (table : List Slot) (direction number : ℕ) (iv buf : List ℕ) (start n skip : ℕ) → length (ourCard .buffer table direction number iv buf start n skip) ≡ length buf
-unfolding trafficked
+unfolding traffickedOf
 size-stays table direction number iv buf start n skip =
     pick-cases (λ (l : List ℕ). length l ≡ length buf) (eqb (trafficRefusal table direction number iv buf start n skip) done)
     (λ e. length-xored buf (slotStream (slotAt table number) iv) start skip n) (λ e. refl)
@@ -132,7 +132,7 @@ refused-stays = traffic-refused
 
 own-key-alone : (a b : List Slot) → Alike a b → (direction number : ℕ) (iv buf : List ℕ) (start n skip : ℕ) → slotAt a number .key ≡ slotAt b number .key
     → ourCard .buffer a direction number iv buf start n skip ≡ ourCard .buffer b direction number iv buf start n skip
-unfolding trafficked
+unfolding traffickedOf
 own-key-alone a b alike direction number iv buf start n skip key =
     rw (refusal-blind a b alike direction number iv buf start n skip, key, fields-alike a b alike number)
 

@@ -18,13 +18,13 @@ use Rattle.slots.specs.declared.Changed.{Changed}
 use Rattle.slots.specs.declared.Shown.{Shown}
 use Rattle.slots.specs.Slots.{allZero, isEmpty, isFilled, isBad, hasBad, empty, emptyTable, slotAt, withSlot}
 use Rattle.slots.specs.Rights.{movedUse}
-use Rattle.slots.specs.Calls.{loadRefusal, moveRefusal, slotRefusal, clearRefusal, answered, loaded, movedSlot, moved, cleared, shown}
+use Rattle.slots.specs.Calls.{loadRefusalOf, moveRefusalOf, slotRefusalOf, clearRefusalOf, loadRefusal, moveRefusal, answered, loaded, movedSlot, moved, cleared, shown}
 use Rattle.span.specs.Span.{blocksUsed}
 use Rattle.span.proofs.Laws.{xored-inside}
 use Rattle.span.proofs.Stream.{stream-lt}
 use Rattle.keystream.specs.Stream.{keystream}
 use Rattle.card.specs.Span.{spanRefusal}
-use Rattle.card.specs.Traffic.{useRefusal, trafficRefusal, trafficBlocks, trafficked}
+use Rattle.card.specs.Traffic.{useRefusalOf, trafficRefusalOf, trafficBlocksOf, trafficRefusal, trafficBlocks, trafficked}
 use Rattle.card.proofs.Laws.{traffic-accepted}
 use Rattle.runs.specs.Calls.{Call, load, move, read, traffic, Twins, end, more, same, other-key}
 use Rattle.runs.specs.Card.{Card, OfTraffic}
@@ -158,40 +158,40 @@ two-keys key other c = more (other-key 1 sendOnly key other refl) (more (same c)
 -- each refuted: the theorem would give two numbers as equal that are not
 
 pub forgets-use : Demand3 forgetsUse → ⊥
-unfolding step run next stateAt traced loadRefusal moveRefusal slotRefusal useRefusal trafficRefusal spanRefusal hasBad isBad isFilled isEmpty allZero bitAt bitOf
+unfolding step run next stateAt traced loadRefusalOf moveRefusalOf slotRefusalOf useRefusalOf trafficRefusalOf spanRefusal hasBad isBad isFilled isEmpty allZero bitAt bitOf
 forgets-use demand =
     let meets = demand (λ place. false) (movedOn 2) (movedOn 2) (more (same _) (more (same _) (more (same _) end))) in
     let e : _≡_ {A = ℕ} 2 1 = meets .sends 2 (opened 2 2 refl refl) sendOnly only .send in
     omega arith
 
 pub forgets-place : Demand3 forgetsPlace → ⊥
-unfolding step run next stateAt traced loadRefusal moveRefusal slotRefusal useRefusal trafficRefusal spanRefusal hasBad isBad isFilled isEmpty allZero bitAt bitOf
+unfolding step run next stateAt traced loadRefusalOf moveRefusalOf slotRefusalOf useRefusalOf trafficRefusalOf spanRefusal hasBad isBad isFilled isEmpty allZero bitAt bitOf
 forgets-place demand =
     let meets = demand (λ place. false) (movedOn 1) (movedOn 1) (more (same _) (more (same _) (more (same _) end))) in
     let e : _≡_ {A = ℕ} 1 0 = meets .sends 2 (opened 1 2 refl refl) sendOnly only .side in
     omega arith
 
 pub ignores-side : Demand3 ignoresSide → ⊥
-unfolding step run next stateAt traced loadRefusal slotRefusal useRefusal trafficRefusal spanRefusal hasBad isBad isFilled isEmpty allZero bitAt bitOf
+unfolding step run next stateAt traced loadRefusalOf slotRefusalOf useRefusalOf trafficRefusalOf spanRefusal hasBad isBad isFilled isEmpty allZero bitAt bitOf
 ignores-side demand =
     let meets = demand (λ place. false) (used 1) (used 1) (more (same _) (more (same _) end)) in
     let e : _≡_ {A = ℕ} 1 0 = meets .sends 1 (opened 1 1 refl refl) sendOnly only .side in
     omega arith
 
 pub looks-at-key : Demand3 looksAtKey → ⊥
-unfolding step run next loadRefusal hasBad isBad isFilled isEmpty allZero
+unfolding step run next loadRefusalOf hasBad isBad isFilled isEmpty allZero
 looks-at-key demand =
     let e : _≡_ {A = ℕ} 8 0 = demand (λ place. true) _ _ (two-keys (keyOf 0) (keyOf 1) (read 1)) .agree 0 .refusal in
     omega arith
 
 pub shows-key-byte : Demand3 showsKeyByte → ⊥
-unfolding step run next loadRefusal clearRefusal slotRefusal hasBad isBad isFilled isEmpty allZero
+unfolding step run next loadRefusalOf clearRefusalOf slotRefusalOf hasBad isBad isFilled isEmpty allZero
 shows-key-byte demand =
     let e : _≡_ {A = ℕ} 0 1 = demand (λ place. true) _ _ (two-keys (keyOf 0) (keyOf 1) (read 1)) .agree 1 .number in
     omega arith
 
 pub counts-by-key : Demand3 countsByKey → ⊥
-unfolding step run next loadRefusal slotRefusal useRefusal trafficRefusal trafficBlocks blocksUsed spanRefusal hasBad isBad isFilled isEmpty allZero bitAt bitOf
+unfolding step run next loadRefusalOf slotRefusalOf useRefusalOf trafficRefusalOf trafficBlocksOf blocksUsed spanRefusal hasBad isBad isFilled isEmpty allZero bitAt bitOf
 counts-by-key demand =
     let e : _≡_ {A = ℕ} 1 2 = demand (λ place. true) _ _ (two-keys (keyOf 0) (keyOf 255) (traffic 1 1 zeros (0 ∷ []) 0 2 0)) .agree 1 .blocks in
     omega arith
@@ -202,7 +202,7 @@ abbrev table : List ℕ → List Slot
 table key = withSlot emptyTable 1 (record { fields = storedOf sendOnly; key = key })
 
 beside : (key : List ℕ) → bitAt (trafficked (table key) 1 1 zeros (0 ∷ []) 0 8 0) 1 ≡ keystream 5 key zeros 1
-unfolding slotRefusal useRefusal trafficRefusal spanRefusal hasBad isBad isFilled isEmpty allZero bitAt bitOf
+unfolding slotRefusalOf useRefusalOf trafficRefusalOf spanRefusal hasBad isBad isFilled isEmpty allZero bitAt bitOf
 beside key =
     ap (λ (l : List ℕ). bitAt l 1) (traffic-accepted (table key) 1 1 zeros (0 ∷ []) 0 8 0 refl)
     ∙ xored-inside _ (stream-lt _) (0 ∷ []) 0 0 8 1 (lit< tt) (lit< tt)
@@ -215,7 +215,7 @@ not-inside m =
     omega (arith, m .high)
 
 pub whole-last-bytes : Demand3 wholeLastBytes → ⊥
-unfolding step run next stateAt traced loadRefusal hasBad isBad isFilled isEmpty allZero
+unfolding step run next stateAt traced loadRefusalOf hasBad isBad isFilled isEmpty allZero
 whole-last-bytes demand =
     ⊎-elim
     (λ same.

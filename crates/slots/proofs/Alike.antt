@@ -15,7 +15,7 @@ use Rattle.fields.specs.Fields.{allInRange, askedOf}
 use Rattle.slots.specs.declared.Slot.{Slot}
 use Rattle.slots.specs.declared.Changed.{Changed}
 use Rattle.slots.specs.Slots.{isEmpty, isFilled, isBad, hasBad, nil, empty, slotAt, withSlot}
-use Rattle.slots.specs.Calls.{loadRefusal, moveRefusal, slotRefusal, clearRefusal, answered, loaded, movedFields, movedSlot, moved, cleared, shown}
+use Rattle.slots.specs.Calls.{loadRefusalOf, moveRefusalOf, slotRefusalOf, clearRefusalOf, loadRefusal, moveRefusal, slotRefusal, clearRefusal, answered, loaded, movedFields, movedSlot, moved, cleared, shown}
 use Rattle.slots.proofs.Tables.{filled-not-empty}
 use Rattle.slots.proofs.Passed.{load-passed}
 use Rattle.slots.proofs.Left.{to-filled}
@@ -64,19 +64,19 @@ module _ (a b : List Slot) (alike : Alike a b) where
   filled-alike number = ap (λ (f : Fields). allInRange (askedOf f)) (fields-alike number)
 
   load-refusal-alike : (number : ℕ) (x : Asked) → loadRefusal a number x ≡ loadRefusal b number x
-  unfolding loadRefusal
+  unfolding loadRefusalOf
   load-refusal-alike number x = rw (bad-alike, filled-alike number)
 
   move-refusal-alike : (from to asked : ℕ) → moveRefusal a from to asked ≡ moveRefusal b from to asked
-  unfolding moveRefusal
+  unfolding moveRefusalOf
   move-refusal-alike from to asked = rw (bad-alike, empty-alike from, filled-alike to, fields-alike from)
 
   pub slot-refusal-alike : (number : ℕ) → slotRefusal a number ≡ slotRefusal b number
-  unfolding slotRefusal
+  unfolding slotRefusalOf
   slot-refusal-alike number = rw (empty-alike number)
 
   clear-refusal-alike : (number : ℕ) → clearRefusal a number ≡ clearRefusal b number
-  unfolding clearRefusal
+  unfolding clearRefusalOf
   clear-refusal-alike number = rw (bad-alike, slot-refusal-alike number)
 
 -- slots and tables that a call makes

@@ -17,7 +17,7 @@ use Rattle.fields.proofs.Ranges.{between-low, between-high}
 use Rattle.slots.specs.declared.Slot.{Slot}
 use Rattle.slots.specs.Slots.{isEmpty, isFilled, isBad, hasBad, allZero, nil, empty, emptyTable, slotAt, withSlot}
 use Rattle.slots.specs.Rights.{within, movedUse}
-use Rattle.slots.specs.Calls.{loadRefusal, moveRefusal, clearRefusal, answered, loaded, movedSlot, moved, cleared}
+use Rattle.slots.specs.Calls.{moveRefusalOf, loadRefusal, moveRefusal, clearRefusal, answered, loaded, movedSlot, moved, cleared}
 use Rattle.slots.proofs.Tables.{filled-not-empty, filled-else, filled-not-bad, good-at, good-set}
 use Rattle.slots.proofs.Passed.{MovePassed, load-passed, move-passed}
 
@@ -95,7 +95,7 @@ move-good table from to asked g =
 -- a filled slot is not moved to itself
 pub move-to-itself : (table : List Slot) (number asked : ℕ) → hasBad table ≡ false → isSlotNumber number ≡ true → isFilled (slotAt table number) ≡ true
     → moveRefusal table number number asked ≡ targetFilled
-unfolding moveRefusal
+unfolding moveRefusalOf
 move-to-itself table number asked good numbered filled = rw (good, numbered, filled-not-empty (slotAt table number) filled, filled)
 
 -- an accepted move: the use that arrives lies within the old one, all else is the old slot's, and the old place is empty

@@ -5,3 +5,4 @@ pub mod Rights
 pub mod Left
 pub mod Rows
 pub mod Alike
+pub mod AsSeen

@@ -6,7 +6,7 @@ use lib.ListN.{replicate}
 use Rattle.fields.specs.declared.Asked.{Asked}
 use Rattle.slots.specs.declared.Slot.{Slot}
 use Rattle.slots.specs.Slots.{allZero, isEmpty, isFilled, isBad, hasBad, empty}
-use Rattle.slots.specs.Calls.{loadRefusal}
+use Rattle.slots.specs.Calls.{loadRefusalOf, loadRefusal}
 
 -- slot 1 is filled, with this use
 abbrev pub one : ℕ → List Slot
@@ -18,9 +18,9 @@ abbrev pub atPlace : ℕ → Asked
 atPlace place = record { version = 0; algorithm = 5; usage = 1; side = 0; place = place }
 
 pub place-79 : loadRefusal (one 1) 2 (atPlace 79) ≡ 0
-unfolding loadRefusal hasBad isBad isFilled isEmpty allZero
+unfolding loadRefusalOf hasBad isBad isFilled isEmpty allZero
 place-79 = refl
 
 pub place-80 : loadRefusal (one 1) 2 (atPlace 80) ≡ 11
-unfolding loadRefusal hasBad isBad isFilled isEmpty allZero
+unfolding loadRefusalOf hasBad isBad isFilled isEmpty allZero
 place-80 = refl

@@ -1,6 +1,7 @@
 -- What load, move, clear and read answer: the refusals in their order, and the table afterwards (document 01, "Slots and rights" and
--- "Numbers an engineer sees"). Assumes nothing: these are definitions.
-use mathlib.Core.Bool.{_||_, not}
+-- "Numbers an engineer sees"). Each order stands once, over what a call sees of its table: whether it is bad, and the slots of its numbers.
+-- Assumes nothing: these are definitions.
+use mathlib.Core.Bool.{Bool, _||_, not}
 use mathlib.Core.List.{List}
 use Prim.Native.Nat.{ℕ}
 use lib.Dec.{eqb}
@@ -16,44 +17,63 @@ use Rattle.slots.specs.Slots.{noFields, isEmpty, isFilled, hasBad, empty
 use Rattle.slots.specs.Rights.{isAskedUse, movedUse, staysWithin}
 
 -- 16, 7, 1, 10, 11, 9
-unfoldable pub loadRefusal : List Slot → ℕ → Asked → ℕ
-loadRefusal table number a =
-    refuse (hasBad table) tableBad
+unfoldable pub loadRefusalOf : Bool → Slot → ℕ → Asked → ℕ
+loadRefusalOf bad slot number a =
+    refuse bad tableBad
     (refuse (not (isSlotNumber number)) slotNumberBad
     (refuse (not (isAlgorithm (a .algorithm))) algorithmUnknown
     (refuse (not (eqb (rightsRefusal a) done)) (rightsRefusal a)
-    (refuse (isFilled (slotAt table number)) targetFilled
+    (refuse (isFilled slot) targetFilled
     done))))
 
 -- 16, 7, 8, 9, 10, 14
-unfoldable pub moveRefusal : List Slot → ℕ → ℕ → ℕ → ℕ
-moveRefusal table from to asked =
-    refuse (hasBad table) tableBad
+unfoldable pub moveRefusalOf : Bool → Slot → Slot → ℕ → ℕ → ℕ → ℕ
+moveRefusalOf bad slot target from to asked =
+    refuse bad tableBad
     (refuse (not (isSlotNumber from) || not (isSlotNumber to)) slotNumberBad
-    (refuse (isEmpty (slotAt table from)) slotEmpty
-    (refuse (isFilled (slotAt table to)) targetFilled
+    (refuse (isEmpty slot) slotEmpty
+    (refuse (isFilled target) targetFilled
     (refuse (not (isAskedUse asked)) codeUnknown
-    (refuse (not (staysWithin (slotAt table from .fields .usage) asked)) useNotWithin
+    (refuse (not (staysWithin (slot .fields .usage) asked)) useNotWithin
     done)))))
 
 -- 7, 8: what every call on a filled slot asks of its number
-unfoldable pub slotRefusal : List Slot → ℕ → ℕ
-slotRefusal table number =
+unfoldable pub slotRefusalOf : Slot → ℕ → ℕ
+slotRefusalOf slot number =
     refuse (not (isSlotNumber number)) slotNumberBad
-    (refuse (isEmpty (slotAt table number)) slotEmpty
+    (refuse (isEmpty slot) slotEmpty
     done)
 
 -- 16, 7, 8: clear and read
-unfoldable pub clearRefusal : List Slot → ℕ → ℕ
-clearRefusal table number = refuse (hasBad table) tableBad (slotRefusal table number)
+unfoldable pub clearRefusalOf : Bool → Slot → ℕ → ℕ
+clearRefusalOf bad slot number = refuse bad tableBad (slotRefusalOf slot number)
+
+-- the same of a table
+
+abbrev pub loadRefusal : List Slot → ℕ → Asked → ℕ
+loadRefusal table number a = loadRefusalOf (hasBad table) (slotAt table number) number a
+
+abbrev pub moveRefusal : List Slot → ℕ → ℕ → ℕ → ℕ
+moveRefusal table from to asked = moveRefusalOf (hasBad table) (slotAt table from) (slotAt table to) from to asked
+
+abbrev pub slotRefusal : List Slot → ℕ → ℕ
+slotRefusal table number = slotRefusalOf (slotAt table number) number
+
+abbrev pub clearRefusal : List Slot → ℕ → ℕ
+clearRefusal table number = clearRefusalOf (hasBad table) (slotAt table number) number
+
+-- The answers, first by whether the table counts as bad; a table by value is bad where it has a bad slot.
 
 -- a refused call leaves the table as it is
 abbrev pub answered : ℕ → List Slot → List Slot → Changed
 answered refusal before after = record { refusal = refusal; table = pick (eqb refusal done) after before }
 
+abbrev pub loadedBy : Bool → List Slot → ℕ → Asked → List ℕ → Changed
+loadedBy bad table number a key =
+    answered (loadRefusalOf bad (slotAt table number) number a) table (withSlot table number (record { fields = storedOf a; key = key }))
+
 abbrev pub loaded : List Slot → ℕ → Asked → List ℕ → Changed
-loaded table number a key =
-    answered (loadRefusal table number a) table (withSlot table number (record { fields = storedOf a; key = key }))
+loaded table number a key = loadedBy (hasBad table) table number a key
 
 -- version, algorithm, side, place and key are carried
 abbrev pub movedFields : Fields → ℕ → Fields
@@ -68,16 +88,25 @@ movedFields f asked = record {
 abbrev pub movedSlot : Slot → ℕ → Slot
 movedSlot s asked = record { fields = movedFields (s .fields) asked; key = s .key }
 
+abbrev pub movedBy : Bool → List Slot → ℕ → ℕ → ℕ → Changed
+movedBy bad table from to asked =
+    answered (moveRefusalOf bad (slotAt table from) (slotAt table to) from to asked) table (withSlot (withSlot table to (movedSlot (slotAt table from) asked)) from empty)
+
 abbrev pub moved : List Slot → ℕ → ℕ → ℕ → Changed
-moved table from to asked =
-    answered (moveRefusal table from to asked) table (withSlot (withSlot table to (movedSlot (slotAt table from) asked)) from empty)
+moved table from to asked = movedBy (hasBad table) table from to asked
+
+abbrev pub clearedBy : Bool → List Slot → ℕ → Changed
+clearedBy bad table number = answered (clearRefusalOf bad (slotAt table number) number) table (withSlot table number empty)
 
 abbrev pub cleared : List Slot → ℕ → Changed
-cleared table number = answered (clearRefusal table number) table (withSlot table number empty)
+cleared table number = clearedBy (hasBad table) table number
 
 -- the number and the fields, without the key
+abbrev pub shownOf : Bool → Slot → ℕ → Shown
+shownOf bad slot number =
+    pick (eqb (clearRefusalOf bad slot number) done)
+    (record { refusal = done; number = number; fields = slot .fields })
+    (record { refusal = clearRefusalOf bad slot number; number = 0; fields = noFields })
+
 abbrev pub shown : List Slot → ℕ → Shown
-shown table number =
-    pick (eqb (clearRefusal table number) done)
-    (record { refusal = done; number = number; fields = slotAt table number .fields })
-    (record { refusal = clearRefusal table number; number = 0; fields = noFields })
+shown table number = shownOf (hasBad table) (slotAt table number) number

@@ -1,3 +1,4 @@
 pub mod Slots
 pub mod Rights
 pub mod Calls
+pub mod Seen

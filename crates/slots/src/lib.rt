@@ -4,10 +4,12 @@ ghost use mathlib.Core.Bool.{true};
 ghost use Prim.Native.Nat.{_-_, _<_};
 ghost use Rattle.fields.specs.Fields.{isSlotNumber, askedOf};
 ghost use Rattle.slots.specs.Slots.{noFields, isNoFields, allZero, isEmpty, isFilled, isBad, hasBad, empty, emptyTable, slotAt, withSlot};
-ghost use Rattle.slots.specs.Rights.{isDirection, includes, within, movedUse, staysWithin};
-ghost use Rattle.slots.specs.Calls.{loadRefusal, moveRefusal, slotRefusal, clearRefusal, loaded, movedSlot, moved, cleared, shown};
+ghost use Rattle.slots.specs.Rights.{isDirection, includes, within, isAskedUse, movedUse, staysWithin};
+ghost use Rattle.slots.specs.Calls.{loadRefusalOf, moveRefusalOf, slotRefusalOf, clearRefusalOf, loaded, movedSlot, moved, cleared, shownOf, shown};
+ghost use Rattle.slots.specs.Seen.{slotAs, loadPut, movePut, emptiedBy, clearPut};
 use fields::Asked;
 use fields::Fields;
+use refusals::refuse;
 
 // What may be shown, and what may not.
 #[repr(C)]
@@ -27,6 +29,12 @@ pub struct Shown {
     pub refusal: u8,
     pub number: u64,
     pub fields: Fields,
+}
+
+// The answer to a call that changes one slot: where it is not refused, the slot becomes this one.
+pub struct Put {
+    pub refusal: u8,
+    pub slot: Slot,
 }
 
 fn no_fields() -> Fields
@@ -105,7 +113,7 @@ pub fn is_filled(slot: Slot) -> bool
     fields::is_algorithm(a.algorithm) && fields::rights_refusal(a) == refusals::DONE
 }
 
-fn is_bad(slot: Slot) -> bool
+pub fn is_bad(slot: Slot) -> bool
     ensures { λ r. ⌜ r ≡ isBad slot ⌝ }
 {
     !is_filled(slot) && !is_empty(slot)
@@ -137,6 +145,16 @@ pub fn slot_at(table: [Slot; 32], number: u64) -> Slot
     ensures { λ r. ⌜ r ≡ slotAt table number ⌝ }
 {
     table[index_of(number)]
+}
+
+// The slot of a number; an empty one for a number that is none.
+pub fn slot_or_empty(table: [Slot; 32], number: u64) -> Slot
+    ensures { λ r. ⌜ r ≡ slotAs table number ⌝ }
+{
+    if !fields::is_slot_number(number) {
+        return empty_slot();
+    }
+    slot_at(table, number)
 }
 
 pub fn with_slot(table: [Slot; 32], number: u64, slot: Slot) -> [Slot; 32]
@@ -178,87 +196,101 @@ fn stays_within(present: u8, asked: u64) -> bool
     lies_within(moved_use(present, asked), present)
 }
 
-// Refusals 16, 7, 1, 10, 11, 9, in this order.
-fn load_refusal(table: [Slot; 32], number: u64, asked: Asked) -> u8
-    ensures { λ r. ⌜ r ≡ loadRefusal table number asked ⌝ }
+// 0 asks for no other use.
+fn is_asked_use(asked: u64) -> bool
+    ensures { λ r. ⌜ r ≡ isAskedUse asked ⌝ }
 {
-    if table_is_bad(table) {
-        return refusals::TABLE;
-    }
-    if !fields::is_slot_number(number) {
-        return refusals::SLOT_NUMBER;
-    }
-    if !fields::is_algorithm(asked.algorithm) {
-        return refusals::ALGORITHM;
-    }
+    asked <= 3
+}
+
+// Refusals 16, 7, 1, 10, 11, 9, in this order.
+fn load_refusal(bad: bool, slot: Slot, number: u64, asked: Asked) -> u8
+    ensures { λ r. ⌜ r ≡ loadRefusalOf bad slot number asked ⌝ }
+{
     let rights = fields::rights_refusal(asked);
-    if rights != refusals::DONE {
-        return rights;
-    }
-    if is_filled(slot_at(table, number)) {
-        return refusals::TARGET_FILLED;
-    }
-    refusals::DONE
+    refuse(
+        bad,
+        refusals::TABLE,
+        refuse(
+            !fields::is_slot_number(number),
+            refusals::SLOT_NUMBER,
+            refuse(
+                !fields::is_algorithm(asked.algorithm),
+                refusals::ALGORITHM,
+                refuse(
+                    rights != refusals::DONE,
+                    rights,
+                    refuse(is_filled(slot), refusals::TARGET_FILLED, refusals::DONE),
+                ),
+            ),
+        ),
+    )
 }
 
 // Refusals 16, 7 for either number, 8, 9, 10, 14, in this order.
-fn move_refusal(table: [Slot; 32], from: u64, to: u64, asked: u64) -> u8
-    ensures { λ r. ⌜ r ≡ moveRefusal table from to asked ⌝ }
+fn move_refusal(bad: bool, slot: Slot, target: Slot, from: u64, to: u64, asked: u64) -> u8
+    ensures { λ r. ⌜ r ≡ moveRefusalOf bad slot target from to asked ⌝ }
 {
-    if table_is_bad(table) {
-        return refusals::TABLE;
-    }
-    if !fields::is_slot_number(from) {
-        return refusals::SLOT_NUMBER;
-    }
-    if !fields::is_slot_number(to) {
-        return refusals::SLOT_NUMBER;
-    }
-    let slot = slot_at(table, from);
-    if is_empty(slot) {
-        return refusals::SLOT_EMPTY;
-    }
-    if is_filled(slot_at(table, to)) {
-        return refusals::TARGET_FILLED;
-    }
-    if 3 < asked {
-        return refusals::CODE;
-    }
     let f = slot.fields;
-    if !stays_within(f.usage, asked) {
-        return refusals::USE_WIDER;
-    }
-    refusals::DONE
+    refuse(
+        bad,
+        refusals::TABLE,
+        refuse(
+            !fields::is_slot_number(from),
+            refusals::SLOT_NUMBER,
+            refuse(
+                !fields::is_slot_number(to),
+                refusals::SLOT_NUMBER,
+                refuse(
+                    is_empty(slot),
+                    refusals::SLOT_EMPTY,
+                    refuse(
+                        is_filled(target),
+                        refusals::TARGET_FILLED,
+                        refuse(
+                            !is_asked_use(asked),
+                            refusals::CODE,
+                            refuse(
+                                !stays_within(f.usage, asked),
+                                refusals::USE_WIDER,
+                                refusals::DONE,
+                            ),
+                        ),
+                    ),
+                ),
+            ),
+        ),
+    )
 }
 
 // Refusals 7, 8, in this order.
-pub fn slot_refusal(table: [Slot; 32], number: u64) -> u8
-    ensures { λ r. ⌜ r ≡ slotRefusal table number ⌝ }
+pub fn slot_refusal(slot: Slot, number: u64) -> u8
+    ensures { λ r. ⌜ r ≡ slotRefusalOf slot number ⌝ }
 {
-    if !fields::is_slot_number(number) {
-        return refusals::SLOT_NUMBER;
-    }
-    if is_empty(slot_at(table, number)) {
-        return refusals::SLOT_EMPTY;
-    }
-    refusals::DONE
+    refuse(
+        !fields::is_slot_number(number),
+        refusals::SLOT_NUMBER,
+        refuse(is_empty(slot), refusals::SLOT_EMPTY, refusals::DONE),
+    )
 }
 
 // Refusals 16, 7, 8, in this order.
-fn clear_refusal(table: [Slot; 32], number: u64) -> u8
-    ensures { λ r. ⌜ r ≡ clearRefusal table number ⌝ }
+fn clear_refusal(bad: bool, slot: Slot, number: u64) -> u8
+    ensures { λ r. ⌜ r ≡ clearRefusalOf bad slot number ⌝ }
 {
-    if table_is_bad(table) {
-        return refusals::TABLE;
-    }
-    slot_refusal(table, number)
+    refuse(bad, refusals::TABLE, slot_refusal(slot, number))
 }
 
 // Fills an empty slot.
 pub fn load(table: [Slot; 32], number: u64, asked: Asked, key: [u8; 24]) -> Changed
     ensures { λ r. ⌜ r ≡ loaded table number asked key ⌝ }
 {
-    let refusal = load_refusal(table, number, asked);
+    let refusal = load_refusal(
+        table_is_bad(table),
+        slot_or_empty(table, number),
+        number,
+        asked,
+    );
     if refusal != refusals::DONE {
         return Changed { refusal, table };
     }
@@ -293,7 +325,14 @@ fn moved_slot(slot: Slot, asked: u64) -> Slot
 pub fn move_slot(table: [Slot; 32], from: u64, to: u64, asked: u64) -> Changed
     ensures { λ r. ⌜ r ≡ moved table from to asked ⌝ }
 {
-    let refusal = move_refusal(table, from, to, asked);
+    let refusal = move_refusal(
+        table_is_bad(table),
+        slot_or_empty(table, from),
+        slot_or_empty(table, to),
+        from,
+        to,
+        asked,
+    );
     if refusal != refusals::DONE {
         return Changed { refusal, table };
     }
@@ -309,7 +348,7 @@ pub fn move_slot(table: [Slot; 32], from: u64, to: u64, asked: u64) -> Changed
 pub fn clear(table: [Slot; 32], number: u64) -> Changed
     ensures { λ r. ⌜ r ≡ cleared table number ⌝ }
 {
-    let refusal = clear_refusal(table, number);
+    let refusal = clear_refusal(table_is_bad(table), slot_or_empty(table, number), number);
     if refusal != refusals::DONE {
         return Changed { refusal, table };
     }
@@ -323,7 +362,69 @@ pub fn clear(table: [Slot; 32], number: u64) -> Changed
 pub fn read(table: [Slot; 32], number: u64) -> Shown
     ensures { λ r. ⌜ r ≡ shown table number ⌝ }
 {
-    let refusal = clear_refusal(table, number);
+    read_of(table_is_bad(table), slot_or_empty(table, number), number)
+}
+
+// The calls on one slot, by whether its table is bad and by what the slot is.
+
+pub fn load_of(bad: bool, slot: Slot, number: u64, asked: Asked, key: [u8; 24]) -> Put
+    ensures { λ r. ⌜ r ≡ loadPut bad slot number asked key ⌝ }
+{
+    let refusal = load_refusal(bad, slot, number, asked);
+    if refusal != refusals::DONE {
+        return Put {
+            refusal,
+            slot: empty_slot(),
+        };
+    }
+    let slot = Slot {
+        fields: fields::stored(asked),
+        key,
+    };
+    Put { refusal, slot }
+}
+
+// What the target becomes; the source becomes an empty slot.
+pub fn move_of(bad: bool, slot: Slot, target: Slot, from: u64, to: u64, asked: u64) -> Put
+    ensures { λ r. ⌜ r ≡ movePut bad slot target from to asked ⌝ }
+{
+    let refusal = move_refusal(bad, slot, target, from, to, asked);
+    if refusal != refusals::DONE {
+        return Put {
+            refusal,
+            slot: empty_slot(),
+        };
+    }
+    Put {
+        refusal,
+        slot: moved_slot(slot, asked),
+    }
+}
+
+// The same answer, for a slot that is emptied.
+pub fn emptied(put: Put) -> Put
+    ensures { λ r. ⌜ r ≡ emptiedBy put ⌝ }
+{
+    Put {
+        refusal: put.refusal,
+        slot: empty_slot(),
+    }
+}
+
+pub fn clear_of(bad: bool, slot: Slot, number: u64) -> Put
+    ensures { λ r. ⌜ r ≡ clearPut bad slot number ⌝ }
+{
+    let refusal = clear_refusal(bad, slot, number);
+    Put {
+        refusal,
+        slot: empty_slot(),
+    }
+}
+
+pub fn read_of(bad: bool, slot: Slot, number: u64) -> Shown
+    ensures { λ r. ⌜ r ≡ shownOf bad slot number ⌝ }
+{
+    let refusal = clear_refusal(bad, slot, number);
     if refusal != refusals::DONE {
         return Shown {
             refusal,
@@ -331,7 +432,6 @@ pub fn read(table: [Slot; 32], number: u64) -> Shown
             fields: no_fields(),
         };
     }
-    let slot = slot_at(table, number);
     let fields = slot.fields;
     Shown {
         refusal,

@@ -1,26 +1,30 @@
--- `card::table::card_load` meets its contract: a walk of its MIR, by hand. The borrow is lent to `table_of` and comes back, `load_from` works on values and on the key behind its `&`, and the borrow goes to `put_changed` for good. There are two lifetimes, κ of t and λ of key.
--- All that it knows of the three is that each meets its contract. Assumes nothing.
+-- `card::table::card_load` meets its contract: a walk of its MIR, by hand. The borrow is lent to `is_no_table` and `slot_in` and comes back, `load_from` works on values and on the key behind its `&`, and the borrow goes to `put_slot` for good. There are two lifetimes, κ of t and λ of key.
+-- All that it knows of the four is that each meets its contract. Assumes nothing.
 use Rattle.card.proofs.Walk.{_≡_, refl, ℕ, _<_, _^_, List, [], _∷_, length, URA, named, w8, w16, w64, Val, vint, vptr, SProp, ent, emp, via, fst∗, id⊢, Lft, GName, Share, ftrue, flft, Memory, Routine, Heap, Calls, Loops, WpFn, Tables, Atoms, Fun, givenOf, tables, tablesOf, Given, ‵, raw, _⊛_, ⋆, _$_, _∵_, !, qed, by, move, drop, use1, use2, split, join, fsplit, fjoin, suffices, frame, done, agg, whole, sub, look-in, look, init, forget, stop, hop, fld, from, load, addr, and-then, no-more, assigns, land, returns, enter, alloc1, alloc0, params1, pass1, pass0, free1, free0, FmC, fmOf, WpFn-mono, RattleType, owns, Array, Is, uint-makes, uint-lawful, uint-vals, uint-tells, u8, u16, u64, RefT, ShrRef, ptr-vals, shr-tells, MutSlice, Room, finally, slice-vals, mut-slice-tells, plainly, shrRefTo, owned, nothing, Vals, onEntry, Meets, tripleOf, Contract, Triple, entered, cited, says, Stays, gave-slice, stay-dropped, walkOf, goes-gave-slice, goes-dropped, ends-at, walked, walk-meets, yes}
 use denote.RattleType.{Denots, Valss}
 use Rattle.fields.specs.declared.Asked.{Asked}
 use Rattle.slots.specs.declared.Slot.{Slot}
-use Rattle.slots.specs.Calls.{loaded}
+use Rattle.slots.specs.Seen.{loadPut}
 use Rattle.card.specs.Faces.{asking}
-use Rattle.card.specs.Table.{tableIn, loadedIn}
+use Rattle.card.specs.Table.{isNoTable, slotIn, loadedIn}
 use Rattle.card.proofs.CallRules.{Of, calls-fn}
-use Rattle.card.proofs.SlotLaws.{R, arr-typed, res-typed}
-use Rattle.card.proofs.TableCalls.{TableOf, PutChanged, lent, slice, lends-table, puts-table, with-table}
-use Rattle.card.proofs.LentAnswers.{load-bad, changed-in}
+use denote.Plain.{bool-lawful}
+use Rattle.card.proofs.SlotLaws.{R, typed, res-typed}
+use Rattle.card.proofs.SlotCalls.{IsNoTable, SlotIn, PutSlot, lent, slice, lends-ask, lends-take, puts-slot, with-seen}
+use Rattle.card.proofs.SeenTables.{loaded-in}
 use Rattle.card.proofs.table.load_from as core
 use Rattle.card.proofs.table.load_from.Symbol as core-def
 use Rattle.card.proofs.table.load_from.Symbol.{name as #core}
 use Rattle.card.proofs.table.load_from.Met as core-thm
-use Rattle.card.proofs.lent_table.table_of.Symbol as table-of-def
-use Rattle.card.proofs.lent_table.table_of.Symbol.{name as #table-of}
-use Rattle.card.proofs.lent_table.table_of.Met as table-of-thm
-use Rattle.card.proofs.lent_table.put_changed.Symbol as put-changed-def
-use Rattle.card.proofs.lent_table.put_changed.Symbol.{name as #put-changed}
-use Rattle.card.proofs.lent_table.put_changed.Met as put-changed-thm
+use Rattle.card.proofs.lent_table.is_no_table.Symbol as is-no-table-def
+use Rattle.card.proofs.lent_table.is_no_table.Symbol.{name as #is-no-table}
+use Rattle.card.proofs.lent_table.is_no_table.Met as is-no-table-thm
+use Rattle.card.proofs.lent_table.slot_in.Symbol as slot-in-def
+use Rattle.card.proofs.lent_table.slot_in.Symbol.{name as #slot-in}
+use Rattle.card.proofs.lent_table.slot_in.Met as slot-in-thm
+use Rattle.card.proofs.lent_table.put_slot.Symbol as put-slot-def
+use Rattle.card.proofs.lent_table.put_slot.Symbol.{name as #put-slot}
+use Rattle.card.proofs.lent_table.put_slot.Met as put-slot-thm
 use Rattle.card.proofs.table.card_load.Key.{name as #key}
 use Rattle.card.proofs.table.card_load as f
 use Rattle.card.proofs.table.card_load.Statement as stated
@@ -68,42 +72,43 @@ module _ {M : Type 1} (𝓤 : URA M) (H : Heap 𝓤) (A : Atoms 𝓤) (W : Given
       nothing ! $ nothing ! $ fjoin ! $ nothing ! $ fjoin ! $ nothing ! $ fjoin ! $ nothing ! $ fjoin ! $ nothing ! $ fjoin ! $ nothing ! $ fjoin ! $ nothing ! $ fjoin ! $ move ! (2 ∷ 0 ∷ []) $ fjoin ! $ done !
 
   -- what the core's triple binds outside
-  abbrev to-core : Val → Core 𝓤 H A mem run .Ghost
-  to-core v = (((λ′, tt), (p, tt), tt, (tableIn ys, rest), (v ∷ [], vals)), tt)
+  abbrev to-core : Val → Val → Core 𝓤 H A mem run .Ghost
+  to-core v w = (((λ′, tt), (p, tt), tt, (isNoTable ys, (slotIn ys n, rest)), (v ∷ [], (w ∷ [], vals))), tt)
 
-  module _ (C : Calls 𝓤 H) (Λ : Loops 𝓤 H) (fm : FmC 𝓤 H (W .laws) C) (table-met : Triple 𝓤 (C #table-of) (TableOf 𝓤 H A mem run)) (core-met : Triple 𝓤 (C #core) (Core 𝓤 H A mem run)) (put-met : Triple 𝓤 (C #put-changed) (PutChanged 𝓤 H A mem run)) where
+  module _ (C : Calls 𝓤 H) (Λ : Loops 𝓤 H) (fm : FmC 𝓤 H (W .laws) C) (ask-met : Triple 𝓤 (C #is-no-table) (IsNoTable 𝓤 H A mem run)) (take-met : Triple 𝓤 (C #slot-in) (SlotIn 𝓤 H A mem run)) (core-met : Triple 𝓤 (C #core) (Core 𝓤 H A mem run)) (put-met : Triple 𝓤 (C #put-slot) (PutSlot 𝓤 H A mem run)) where
     walk : ent 𝓤 (onEntry 𝓤 H A f.signature (κ, (λ′, tt)) (q, (p, tt)) x at) (WpFn 𝓤 H C Λ code.function passed Post)
     walk =
         qed W ((‵ (flft κ q) ⊛ (‵ (flft λ′ p) ⊛ ‵ ftrue)) ∷ ‵ (owns (MutSlice (named 0) κ R ∷ Rest) x at) ∷ []) ∵ enter ! C Λ code.function passed _ $
-        alloc1 ! (λ l₀. alloc1 ! (λ l₁. alloc1 ! (λ l₂. alloc1 ! (λ l₃. alloc1 ! (λ l₄. alloc1 ! (λ l₅. alloc1 ! (λ l₆. alloc1 ! (λ l₇. alloc1 ! (λ l₈. alloc1 ! (λ l₉. alloc1 ! (λ l₁₀. alloc1 ! (λ l₁₁. alloc1 ! (λ l₁₂. alloc1 ! (λ l₁₃. alloc1 ! (λ l₁₄. alloc0 ! $ params1 ! $
-        pass1 ! (init ! 26 refl (tt, (tt, (record { fits = room .0 }, tt)))) $ pass1 ! (init ! 24 refl (tt, record { fits = n-fits })) $ pass1 ! (init ! 22 refl (tt, record { fits = version })) $ pass1 ! (init ! 20 refl (tt, record { fits = algorithm })) $
-        pass1 ! (init ! 18 refl (tt, record { fits = usage })) $ pass1 ! (init ! 16 refl (tt, record { fits = side })) $ pass1 ! (init ! 14 refl (tt, record { fits = place })) $ pass1 ! (init ! 12 refl (tt, tt)) $ pass0 ! $
-        -- [_14; …; _0; …; the tokens; what the parameters own]
-        move ! (31 ∷ []) $ fsplit ! $ move ! (32 ∷ []) $ split ! $ move ! (2 ∷ 0 ∷ []) $
-        -- [what t owns; the token of κ; the token of λ; what the others own; _14; …; _0; …]
-        assigns ! (addr ! (from ! (fld ! refl (hop ! (look-in ! 30 (sub ! 0 refl (whole !))) (stop !))))) (from ! (stop !)) (init ! 10 refl (tt, tt)) $
-        assigns ! (agg ! (and-then ! (load ! (from ! (stop !)) (look ! 10 refl)) (and-then ! (load ! (from ! (fld ! refl (stop !))) (look-in ! 30 (sub ! 1 refl (whole !)))) (no-more !)))) (from ! (stop !)) (init ! 8 refl (tt, (tt, (record { fits = room .0 }, tt)))) $
-        lends-table ! mem run b o ys κ q γ room fm table-met (λ α ε. and-then ! (load ! (from ! (stop !)) (look ! 8 refl)) (no-more !)) (λ v is.
-        land ! (from ! (stop !)) (init ! 12 refl (arr-typed 𝓤 H A W (tableIn ys) v is)) $
-        move ! (2 ∷ 3 ∷ []) $ use2 W (raw (Core 𝓤 H A mem run .pre (to-core v))) (with-table 𝓤 H A W λ′ p Rest rest vals (tableIn ys) v is) $
-        -- [what the core asks; what t owns; the token of κ; _14; …; _0; …]
-        calls-fn ! fm core.ended (core.clauses 𝓤 H A mem run) core-met (to-core v) (λ c ws. c ≡ loaded (tableIn ys) n a ks) (λ c ws. id⊢ 𝓤 _)
-        (and-then ! (load ! (from ! (stop !)) (look ! 11 refl)) (and-then ! (load ! (from ! (stop !)) (look ! 27 refl)) (and-then ! (load ! (from ! (stop !)) (look ! 25 refl)) (and-then ! (load ! (from ! (stop !)) (look ! 23 refl)) (and-then ! (load ! (from ! (stop !)) (look ! 21 refl))
-        (and-then ! (load ! (from ! (stop !)) (look ! 19 refl)) (and-then ! (load ! (from ! (stop !)) (look ! 17 refl)) (and-then ! (load ! (from ! (stop !)) (look ! 15 refl)) (no-more !))))))))) (λ u c ws e c-is.
+        alloc1 ! (λ l₀. alloc1 ! (λ l₁. alloc1 ! (λ l₂. alloc1 ! (λ l₃. alloc1 ! (λ l₄. alloc1 ! (λ l₅. alloc1 ! (λ l₆. alloc1 ! (λ l₇. alloc1 ! (λ l₈. alloc1 ! (λ l₉. alloc1 ! (λ l₁₀. alloc1 ! (λ l₁₁. alloc1 ! (λ l₁₂. alloc1 ! (λ l₁₃. alloc1 ! (λ l₁₄. alloc1 ! (λ l₁₅. alloc1 ! (λ l₁₆. alloc1 ! (λ l₁₇. alloc0 ! $ params1 ! $
+        pass1 ! (init ! 32 refl (tt, (tt, (record { fits = room .0 }, tt)))) $ pass1 ! (init ! 30 refl (tt, record { fits = n-fits })) $ pass1 ! (init ! 28 refl (tt, record { fits = version })) $ pass1 ! (init ! 26 refl (tt, record { fits = algorithm })) $ pass1 ! (init ! 24 refl (tt, record { fits = usage })) $ pass1 ! (init ! 22 refl (tt, record { fits = side })) $ pass1 ! (init ! 20 refl (tt, record { fits = place })) $ pass1 ! (init ! 18 refl (tt, tt)) $ pass0 ! $
+        -- [_17; …; _0; …; the tokens; what the parameters own]
+        move ! (37 ∷ []) $ fsplit ! $ move ! (38 ∷ []) $ split ! $ move ! (2 ∷ 0 ∷ []) $
+        -- [what t owns; the token of κ; the token of λ; what the others own; _17; …; _0; …]
+        assigns ! (addr ! (from ! (fld ! refl (hop ! (look-in ! 36 (sub ! 0 refl (whole !))) (stop !))))) (from ! (stop !)) (init ! 16 refl (tt, tt)) $
+        assigns ! (agg ! (and-then ! (load ! (from ! (stop !)) (look ! 16 refl)) (and-then ! (load ! (from ! (fld ! refl (stop !))) (look-in ! 36 (sub ! 1 refl (whole !)))) (no-more !)))) (from ! (stop !)) (init ! 14 refl (tt, (tt, (record { fits = room .0 }, tt)))) $
+        lends-ask ! mem run b o ys κ q γ room fm ask-met (λ α ε. (and-then ! (load ! (from ! (stop !)) (look ! 15 refl)) (no-more !))) (λ v is.
+        land ! (from ! (stop !)) (init ! 18 refl (bool-lawful 𝓤 H A W .typed (isNoTable ys) _ is .0)) $
+        assigns ! (addr ! (from ! (fld ! refl (hop ! (look-in ! 36 (sub ! 0 refl (whole !))) (stop !))))) (from ! (stop !)) (init ! 10 refl (tt, tt)) $
+        assigns ! (agg ! (and-then ! (load ! (from ! (stop !)) (look ! 10 refl)) (and-then ! (load ! (from ! (fld ! refl (stop !))) (look-in ! 36 (sub ! 1 refl (whole !)))) (no-more !)))) (from ! (stop !)) (init ! 8 refl (tt, (tt, (record { fits = room .0 }, tt)))) $
+        lends-take ! mem run b o ys κ q γ room n n-fits fm take-met (λ α ε. (and-then ! (load ! (from ! (stop !)) (look ! 9 refl)) (and-then ! (load ! (from ! (stop !)) (look ! 35 refl)) (no-more !)))) (λ w w-is.
+        land ! (from ! (stop !)) (init ! 12 refl (typed 𝓤 H A W (slotIn ys n) w w-is)) $
+        move ! (2 ∷ 3 ∷ []) $ use2 W (raw (Core 𝓤 H A mem run .pre (to-core v w))) (with-seen 𝓤 H A W λ′ p Rest rest vals (isNoTable ys) v is (slotIn ys n) w w-is) $
+        -- [what the core asks; what t owns; the token of κ; _17; …; _0; …]
+        calls-fn ! fm core.ended (core.clauses 𝓤 H A mem run) core-met (to-core v w) (λ c ws. c ≡ loadPut (isNoTable ys) (slotIn ys n) n a ks) (λ c ws. id⊢ 𝓤 _)
+        (and-then ! (load ! (from ! (stop !)) (look ! 17 refl)) (and-then ! (load ! (from ! (stop !)) (look ! 11 refl)) (and-then ! (load ! (from ! (stop !)) (look ! 33 refl)) (and-then ! (load ! (from ! (stop !)) (look ! 31 refl)) (and-then ! (load ! (from ! (stop !)) (look ! 29 refl)) (and-then ! (load ! (from ! (stop !)) (look ! 27 refl)) (and-then ! (load ! (from ! (stop !)) (look ! 25 refl)) (and-then ! (load ! (from ! (stop !)) (look ! 23 refl)) (and-then ! (load ! (from ! (stop !)) (look ! 21 refl)) (no-more !)))))))))) (λ u c ws e c-is.
         use1 W (‵ (flft λ′ p) ⊛ ‵ ftrue) (id⊢ 𝓤 _) $ move ! (1 ∷ []) $ drop ! $ move ! (1 ∷ 2 ∷ []) $
-        -- [what t owns; the token of κ; the token of λ; _14; …; _0; …]
-        land ! (from ! (stop !)) (init ! 13 refl (res-typed 𝓤 H A W c u c-is)) $
-        assigns ! (addr ! (from ! (fld ! refl (hop ! (look-in ! 29 (sub ! 0 refl (whole !))) (stop !))))) (from ! (stop !)) (init ! 5 refl (tt, tt)) $
-        assigns ! (agg ! (and-then ! (load ! (from ! (stop !)) (look ! 5 refl)) (and-then ! (load ! (from ! (fld ! refl (stop !))) (look-in ! 29 (sub ! 1 refl (whole !)))) (no-more !)))) (from ! (stop !)) (init ! 3 refl (tt, (tt, (record { fits = room .0 }, tt)))) $
-        puts-table ! mem run b o ys κ q γ c u c-is fm put-met (and-then ! (load ! (from ! (stop !)) (look ! 2 refl)) (and-then ! (load ! (from ! (stop !)) (look ! 12 refl)) (no-more !))) (λ w r zs s l is′.
-        -- [the token of κ; the last list; the token of λ; _14; …; _0; …]
-        land ! (from ! (stop !)) (init ! 31 refl (uint-lawful 𝓤 H A W w8 .typed r _ is′ .0)) $
-        returns ! (look ! 31 refl) $ forget ! 3 refl $ forget ! 5 refl $ forget ! 7 refl $ forget ! 9 refl $ forget ! 11 refl $ forget ! 13 refl $ forget ! 15 refl $ forget ! 17 refl $ forget ! 19 refl $ forget ! 21 refl $ forget ! 23 refl $ forget ! 25 refl $ forget ! 27 refl $ forget ! 29 refl $ forget ! 31 refl $
-        move ! (31 ∷ 32 ∷ []) $ free1 ! $ move ! (29 ∷ 30 ∷ []) $ free1 ! $ move ! (27 ∷ 28 ∷ []) $ free1 ! $ move ! (25 ∷ 26 ∷ []) $ free1 ! $ move ! (23 ∷ 24 ∷ []) $ free1 ! $ move ! (21 ∷ 22 ∷ []) $ free1 ! $ move ! (19 ∷ 20 ∷ []) $ free1 ! $ move ! (17 ∷ 18 ∷ []) $ free1 ! $ move ! (15 ∷ 16 ∷ []) $ free1 ! $ move ! (13 ∷ 14 ∷ []) $ free1 ! $
-        move ! (11 ∷ 12 ∷ []) $ free1 ! $ move ! (9 ∷ 10 ∷ []) $ free1 ! $ move ! (7 ∷ 8 ∷ []) $ free1 ! $ move ! (5 ∷ 6 ∷ []) $ free1 ! $ move ! (3 ∷ 4 ∷ []) $ free1 ! $ free0 ! $
-        by ! (exits r w zs (changed-in (λ l. loaded l n a ks) (load-bad n a) ys c e r zs s) l is′)))))))))))))))))))
+        -- [what t owns; the token of κ; the token of λ; _17; …; _0; …]
+        land ! (from ! (stop !)) (init ! 19 refl (res-typed 𝓤 H A W c u c-is)) $
+        assigns ! (addr ! (from ! (fld ! refl (hop ! (look-in ! 35 (sub ! 0 refl (whole !))) (stop !))))) (from ! (stop !)) (init ! 5 refl (tt, tt)) $
+        assigns ! (agg ! (and-then ! (load ! (from ! (stop !)) (look ! 5 refl)) (and-then ! (load ! (from ! (fld ! refl (stop !))) (look-in ! 35 (sub ! 1 refl (whole !)))) (no-more !)))) (from ! (stop !)) (init ! 3 refl (tt, (tt, (record { fits = room .0 }, tt)))) $
+        puts-slot ! mem run b o ys κ q γ n n-fits c u c-is fm put-met (and-then ! (load ! (from ! (stop !)) (look ! 2 refl)) (and-then ! (load ! (from ! (stop !)) (look ! 32 refl)) (and-then ! (load ! (from ! (stop !)) (look ! 18 refl)) (no-more !)))) (λ m r zs s l is′.
+        -- [the token of κ; the last list; the token of λ; _17; …; _0; …]
+        land ! (from ! (stop !)) (init ! 37 refl (uint-lawful 𝓤 H A W w8 .typed r _ is′ .0)) $
+        returns ! (look ! 37 refl) $ forget ! 3 refl $ forget ! 5 refl $ forget ! 7 refl $ forget ! 9 refl $ forget ! 11 refl $ forget ! 13 refl $ forget ! 15 refl $ forget ! 17 refl $ forget ! 19 refl $ forget ! 21 refl $ forget ! 23 refl $ forget ! 25 refl $ forget ! 27 refl $ forget ! 29 refl $ forget ! 31 refl $ forget ! 33 refl $ forget ! 35 refl $ forget ! 37 refl $
+        move ! (37 ∷ 38 ∷ []) $ free1 ! $ move ! (35 ∷ 36 ∷ []) $ free1 ! $ move ! (33 ∷ 34 ∷ []) $ free1 ! $ move ! (31 ∷ 32 ∷ []) $ free1 ! $ move ! (29 ∷ 30 ∷ []) $ free1 ! $ move ! (27 ∷ 28 ∷ []) $ free1 ! $ move ! (25 ∷ 26 ∷ []) $ free1 ! $ move ! (23 ∷ 24 ∷ []) $ free1 ! $ move ! (21 ∷ 22 ∷ []) $ free1 ! $ move ! (19 ∷ 20 ∷ []) $ free1 ! $ move ! (17 ∷ 18 ∷ []) $ free1 ! $ move ! (15 ∷ 16 ∷ []) $ free1 ! $ move ! (13 ∷ 14 ∷ []) $ free1 ! $ move ! (11 ∷ 12 ∷ []) $ free1 ! $ move ! (9 ∷ 10 ∷ []) $ free1 ! $ move ! (7 ∷ 8 ∷ []) $ free1 ! $ move ! (5 ∷ 6 ∷ []) $ free1 ! $ move ! (3 ∷ 4 ∷ []) $ free1 ! $ free0 ! $
+        by ! (exits r m zs (loaded-in ys n a ks c e r zs s) l is′)))))))))))))))))))))))
 
-module _ {M : Type 1} (𝓤 : URA M) (H : Heap 𝓤) (A : Atoms 𝓤) (W : Given 𝓤 H A) (mem : Memory → SProp 𝓤) (run : Routine → Fun 𝓤) (𝓣 : Tables 𝓤 H) (table-met : Triple 𝓤 (𝓣 .C #table-of) (TableOf 𝓤 H A mem run)) (core-met : Triple 𝓤 (𝓣 .C #core) (Core 𝓤 H A mem run)) (put-met : Triple 𝓤 (𝓣 .C #put-changed) (PutChanged 𝓤 H A mem run)) where
+module _ {M : Type 1} (𝓤 : URA M) (H : Heap 𝓤) (A : Atoms 𝓤) (W : Given 𝓤 H A) (mem : Memory → SProp 𝓤) (run : Routine → Fun 𝓤) (𝓣 : Tables 𝓤 H) (ask-met : Triple 𝓤 (𝓣 .C #is-no-table) (IsNoTable 𝓤 H A mem run)) (take-met : Triple 𝓤 (𝓣 .C #slot-in) (SlotIn 𝓤 H A mem run)) (core-met : Triple 𝓤 (𝓣 .C #core) (Core 𝓤 H A mem run)) (put-met : Triple 𝓤 (𝓣 .C #put-slot) (PutSlot 𝓤 H A mem run)) where
   abbrev Run : Fun 𝓤
   Run = WpFn 𝓤 H (𝓣 .C) (𝓣 .Λ) code.function
 
@@ -129,7 +134,7 @@ module _ {M : Type 1} (𝓤 : URA M) (H : Heap 𝓤) (A : Atoms 𝓤) (W : Given
       (λ κs qs bounds a g are. via 𝓤 _ (fst∗ 𝓤 _ (emp 𝓤))
       (walk 𝓤 H A W mem run (κs .0) (κs .1 .0) (qs .0) (qs .1 .0) (a .0 .ptr .0) (a .0 .ptr .1) (a .0 .name) (a .0 .now) (a .1 .0) (asking (a .1 .1 .0) (a .1 .1 .1 .0) (a .1 .1 .1 .1 .0) (a .1 .1 .1 .1 .1 .0) (a .1 .1 .1 .1 .1 .1 .0))
       (a .1 .1 .1 .1 .1 .1 .1 .0 .ptr .0) (a .1 .1 .1 .1 .1 .1 .1 .0 .ptr .1) (a .1 .1 .1 .1 .1 .1 .1 .0 .name) (a .1 .1 .1 .1 .1 .1 .1 .0 .now)
-      (are .0 .0 .1) (are .1 .0 .1) (are .1 .1 .0 .1) (are .1 .1 .1 .0 .1) (are .1 .1 .1 .1 .0 .1) (are .1 .1 .1 .1 .1 .0 .1) (are .1 .1 .1 .1 .1 .1 .0 .1) (𝓣 .C) (𝓣 .Λ) (fmOf 𝓤 H (W .laws) 𝓣) table-met core-met put-met)))
+      (are .0 .0 .1) (are .1 .0 .1) (are .1 .1 .0 .1) (are .1 .1 .1 .0 .1) (are .1 .1 .1 .1 .0 .1) (are .1 .1 .1 .1 .1 .0 .1) (are .1 .1 .1 .1 .1 .1 .0 .1) (𝓣 .C) (𝓣 .Λ) (fmOf 𝓤 H (W .laws) 𝓣) ask-met take-met core-met put-met)))
 
 pub card-load-spec : {M : Type 1} → stated.statement M
 unfolding code.routine tablesOf
@@ -137,6 +142,7 @@ card-load-spec 𝓤 H 𝓜 𝓖 𝓡 =
     entered 𝓤 H (tripleOf 𝓤 H (𝓖 .A) f.signature (f.spec 𝓤 H (𝓖 .A) (𝓜 .mem) (𝓡 .run)))
     (tables 𝓤 H 𝓜 𝓡 code.env .C) (tables 𝓤 H 𝓜 𝓡 code.env .Λ) #key code.function (code.unfolded 𝓤 H 𝓜 𝓡)
     (meets 𝓤 H (𝓖 .A) (givenOf 𝓤 H 𝓜 𝓖) (𝓜 .mem) (𝓡 .run) (tablesOf 𝓤 H 𝓜 (tables 𝓤 H 𝓜 𝓡 code.env))
-    (cited 𝓤 H (TableOf 𝓤 H (𝓖 .A) (𝓜 .mem) (𝓡 .run)) 𝓜 𝓡 code.env #table-of table-of-def.routine code.calls-card·lent-table·table-of (table-of-thm.met 𝓤 H 𝓜 𝓖 𝓡))
+    (cited 𝓤 H (IsNoTable 𝓤 H (𝓖 .A) (𝓜 .mem) (𝓡 .run)) 𝓜 𝓡 code.env #is-no-table is-no-table-def.routine code.calls-card·lent-table·is-no-table (is-no-table-thm.met 𝓤 H 𝓜 𝓖 𝓡))
+    (cited 𝓤 H (SlotIn 𝓤 H (𝓖 .A) (𝓜 .mem) (𝓡 .run)) 𝓜 𝓡 code.env #slot-in slot-in-def.routine code.calls-card·lent-table·slot-in (slot-in-thm.met 𝓤 H 𝓜 𝓖 𝓡))
     (cited 𝓤 H (Core 𝓤 H (𝓖 .A) (𝓜 .mem) (𝓡 .run)) 𝓜 𝓡 code.env #core core-def.routine code.calls-card·table·load-from (core-thm.met 𝓤 H 𝓜 𝓖 𝓡))
-    (cited 𝓤 H (PutChanged 𝓤 H (𝓖 .A) (𝓜 .mem) (𝓡 .run)) 𝓜 𝓡 code.env #put-changed put-changed-def.routine code.calls-card·lent-table·put-changed (put-changed-thm.met 𝓤 H 𝓜 𝓖 𝓡)))
+    (cited 𝓤 H (PutSlot 𝓤 H (𝓖 .A) (𝓜 .mem) (𝓡 .run)) 𝓜 𝓡 code.env #put-slot put-slot-def.routine code.calls-card·lent-table·put-slot (put-slot-thm.met 𝓤 H 𝓜 𝓖 𝓡)))

@@ -1,67 +1,29 @@
--- `card::traffic::traffic`: a refusal keeps the buffer; else the work's contracts say what it holds. Assumes nothing.
-use mathlib.Core.Path.{_≡_, sym, _∙_}
-use Prim.Native.Nat.{ℕ}
-use native.Mathlib.Omega.{arith}
+-- `card::traffic::traffic`: what is decided by what is seen of the table is what is decided by the table. Assumes nothing.
+use mathlib.Core.Path.{_∙_}
 use borrow.Author.Needs.{needs}
-use borrow.Author.Tests.{eq-eqb, ne-eqb}
-use Rattle.span.specs.Span.{xored}
-use Rattle.keystream.specs.Stream.{keystream}
-use Rattle.card.specs.Traffic.{trafficRefusal, trafficked, trafficBlocks}
-use Rattle.card.proofs.Passed.{TrafficPassed, traffic-passed}
+use Rattle.slots.proofs.AsSeen.{slot-there}
+use Rattle.card.specs.Traffic.{trafficRefusalOf, traffickedOf, trafficBlocksOf}
+use Rattle.card.proofs.SeenTraffic.{refusal-seen, buffer-seen, blocks-seen}
 use Rattle.card.proofs.traffic.traffic.Statement.{statement}
 use Rattle.card.proofs.traffic.traffic.Tie as tie
 
-abbrev start : tie.Else1 → tie.Start
-start e = e .before .before .before .before .before
-
-abbrev answer : tie.Start → ℕ
-answer s = trafficRefusal (s .args .table) (s .args .direction) (s .args .number) (s .args .iv .now) (s .args .buf .now) (s .args .start) (s .args .n) (s .args .skip)
-
-accepted : (e : tie.Else1) → answer (start e) ≡ 0
-accepted e = sym (e .before .traffic-refusal .ensures) ∙ e .if1 .left
-
-passed : (e : tie.Else1)
-    → TrafficPassed (start e .args .table) (start e .args .direction) (start e .args .number) (start e .args .iv .now) (start e .args .buf .now) (start e .args .start) (start e .args .n) (start e .args .skip)
-passed e = traffic-passed _ _ _ _ _ _ _ _ (accepted e)
-
 returns : tie.Need-returns
-unfolding trafficked trafficBlocks
 returns c =
-    let e = c .before .traffic-refusal .ensures in
-    let no = ne-eqb _ 0 (λ z. c .if1 .taken (e ∙ z)) in
-    (e, rw no, rw no)
-
-slot-at-requires : tie.Need-slot-at-requires
-slot-at-requires c κs = passed c .allowed .slot .numbered
-
-iv-of-requires : tie.Need-iv-of-requires
-iv-of-requires c κs = passed (c .before .before .before .before .before) .allowed .iv-10
-
-xor-keystream-requires : tie.Need-xor-keystream-requires
-xor-keystream-requires c κs = let s = passed (c .before .before .before .before .before .before) .span in (s .small, omega arith, omega arith)
-
-blocks-used-requires : tie.Need-blocks-used-requires
-blocks-used-requires c κs = let s = passed (c .before .before .before .before .before .before .before .before .before) .span in omega arith
-
-returns-2 : tie.Need-returns-2
-unfolding trafficked trafficBlocks
-returns-2 c =
-    let ran = c .before .before .before in
-    let iv = ran .before in
-    let found = iv .before .before .before .before .before in
-    let e = found .before in
-    let a = start e .args in
-    let yes = eq-eqb (answer (start e)) 0 (accepted e) in (
-      e .before .traffic-refusal .ensures,
-      rw yes (c .blocks-used .ensures),
-      rw yes
-          (ran .xor-keystream .ensures
-          ∙ (λ i. xored (a .buf .now) (keystream (found .slot-at .ensures i .fields .algorithm) (found .slot-at .ensures i .key) (iv .iv-of .ensures i)) (a .start) (a .skip) (a .n))),
+    let d = c .before .before in
+    let s = d .before .before in
+    let b = s .before in
+    let a = b .before .before .before .args in
+    let e = d .traffic-of .ensures in (
+      e .0
+          ∙ (λ i. trafficRefusalOf (b .table-is-bad .ensures i) (s .slot-or-empty .ensures i) (a .direction) (a .number) (a .iv .now) (a .buf .now) (a .start) (a .n) (a .skip))
+          ∙ refusal-seen _ (a .number) _ _ (slot-there _ (a .table) (a .number)) (a .direction) (a .iv .now) (a .buf .now) (a .start) (a .n) (a .skip),
+      e .1
+          ∙ (λ i. trafficBlocksOf (b .table-is-bad .ensures i) (s .slot-or-empty .ensures i) (a .direction) (a .number) (a .iv .now) (a .buf .now) (a .start) (a .n) (a .skip))
+          ∙ blocks-seen _ (a .number) _ _ (slot-there _ (a .table) (a .number)) (a .direction) (a .iv .now) (a .buf .now) (a .start) (a .n) (a .skip),
+      e .2
+          ∙ (λ i. traffickedOf (b .table-is-bad .ensures i) (s .slot-or-empty .ensures i) (a .direction) (a .number) (a .iv .now) (a .buf .now) (a .start) (a .n) (a .skip))
+          ∙ buffer-seen _ (a .number) _ _ (slot-there _ (a .table) (a .number)) (a .direction) (a .iv .now) (a .buf .now) (a .start) (a .n) (a .skip),
     )
 
 pub traffic-spec : {M : Type 1} → statement M
-traffic-spec =
-    tie.close
-    (tie.spec
-    (λ c κs. search needs) (λ c. search needs) returns slot-at-requires (λ c. search needs) iv-of-requires xor-keystream-requires blocks-used-requires
-    (λ c. search needs) returns-2)
+traffic-spec = tie.close (tie.spec (λ c κs. search needs) (λ c κs. search needs) (λ c κs. search needs) (λ c. search needs) returns)

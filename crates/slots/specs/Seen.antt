@@ -1,0 +1,36 @@
+-- What a call makes of the one slot that it changes, by what it saw of its table; proofs/AsSeen.antt takes this to the answers of `Calls`.
+-- Assumes nothing: these are definitions.
+use mathlib.Core.Bool.{Bool}
+use mathlib.Core.List.{List}
+use Prim.Native.Nat.{ℕ}
+use lib.Dec.{eqb}
+use Rattle.laws.specs.Choice.{pick}
+use Rattle.refusals.specs.Numbers.{done}
+use Rattle.fields.specs.declared.Asked.{Asked}
+use Rattle.fields.specs.Fields.{isSlotNumber, storedOf}
+use Rattle.slots.specs.declared.Slot.{Slot}
+use Rattle.slots.specs.declared.Put.{Put}
+use Rattle.slots.specs.Slots.{empty, slotAt}
+use Rattle.slots.specs.Calls.{loadRefusalOf, moveRefusalOf, clearRefusalOf, movedSlot}
+
+-- a call with a number that is none is refused whatever the slot is
+abbrev pub slotAs : List Slot → ℕ → Slot
+slotAs table number = pick (isSlotNumber number) (slotAt table number) empty
+
+-- after a refusal the slot is not looked at
+abbrev pub putBy : ℕ → Slot → Put
+putBy refusal slot = record { refusal = refusal; slot = pick (eqb refusal done) slot empty }
+
+abbrev pub loadPut : Bool → Slot → ℕ → Asked → List ℕ → Put
+loadPut bad slot number a key = putBy (loadRefusalOf bad slot number a) (record { fields = storedOf a; key = key })
+
+-- what the target becomes
+abbrev pub movePut : Bool → Slot → Slot → ℕ → ℕ → ℕ → Put
+movePut bad slot target from to asked = putBy (moveRefusalOf bad slot target from to asked) (movedSlot slot asked)
+
+-- the same answer, for a slot that is emptied
+abbrev pub emptiedBy : Put → Put
+emptiedBy put = record { refusal = put .refusal; slot = empty }
+
+abbrev pub clearPut : Bool → Slot → ℕ → Put
+clearPut bad slot number = record { refusal = clearRefusalOf bad slot number; slot = empty }
