@@ -1,5 +1,5 @@
 -- A loop that tests the slots of a list, the first one first: its states, what falls from one to the next, and what it leaves. Assumes nothing.
-use mathlib.Core.Bool.{Bool, true, false, _||_, not, or-false, or-assoc}
+use mathlib.Core.Bool.{Bool, true, false, _&&_, _||_, not, and-true, or-false, or-assoc}
 use mathlib.Core.List.{List}
 use mathlib.Core.Path.{_≡_, refl, sym, ap, _∙_}
 use mathlib.Core.WellFounded.{WellFounded, InvImage·wf}
@@ -9,8 +9,8 @@ use lib.Dec.{T as Holds}
 use lib.ListN.{length, getD, drop}
 use lib.WfN.{Nat·lt-wfRel}
 use Rattle.slots.specs.declared.Slot.{Slot}
-use Rattle.slots.specs.Slots.{nil, isFilled, isBad, hasBad}
-use Rattle.slots.proofs.Tables.{bad-next, bad-none, filled-not-bad}
+use Rattle.slots.specs.Slots.{nil, isNoFields, allZero, isEmpty, isFilled, isBad, hasBad}
+use Rattle.slots.proofs.Tables.{bad-next, bad-none}
 
 pub record Turn (ys : List Slot) : Type 0 where
   pub i : ℕ
@@ -39,13 +39,14 @@ onward {ys} t h l = record {
 pub all-tested : {ys : List Slot} (t : Turn ys) → t .i ≡ 32 → length ys ≡ 32 → t .bad ≡ hasBad ys
 all-tested {ys} t e l = sym (or-false (t .bad)) ∙ ap (λ (b : Bool). t .bad || b) (sym (bad-none ys (t .i) (omega (arith, e, l)))) ∙ t .so
 
--- a filled slot is not bad, whatever its key is
-pub filled-passes : (bad : Bool) (s : Slot) → Holds (not (not (isFilled s))) → bad ≡ (bad || isBad s)
-filled-passes bad s h = go (isFilled s) refl h
+-- a slot that shows a field is bad unless it is filled, whatever its key is
+pub shown-bad : (bad : Bool) (s : Slot) → Holds (not (isNoFields (s .fields))) → (bad || not (isFilled s)) ≡ (bad || isBad s)
+unfolding isBad isEmpty
+shown-bad bad s h = ap (λ (b : Bool). bad || b) (go (isNoFields (s .fields)) h)
   where
-    go : (f : Bool) → isFilled s ≡ f → Holds (not (not f)) → bad ≡ (bad || isBad s)
-    go true e h = sym (or-false bad) ∙ ap (λ (b : Bool). bad || b) (sym (filled-not-bad s e))
-    go false e h = absurd h
+    go : (none : Bool) → Holds (not none) → not (isFilled s) ≡ (not (isFilled s) && not (none && allZero (s .key)))
+    go true h = absurd h
+    go false h = sym (and-true (not (isFilled s)))
 
 -- a test that is asked before another one
 

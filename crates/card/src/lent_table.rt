@@ -1,7 +1,7 @@
 // The calls' view of a lent list of slot records: the slots are tested where they lie, and only the one that is asked for is copied.
 ghost use mathlib.Core.Path.{_≡_};
-ghost use mathlib.Core.Bool.{_||_};
-ghost use Rattle.slots.specs.Slots.{isBad};
+ghost use mathlib.Core.Bool.{_||_, not};
+ghost use Rattle.slots.specs.Slots.{isFilled, isBad};
 ghost use Rattle.card.specs.Table.{isNoTable, placeOf, slotIn, placeTo, putIn};
 use slots::Put;
 use slots::Slot;
@@ -12,7 +12,14 @@ fn or_bad(bad: bool, slot: Slot) -> bool
     bad || slots::is_bad(slot)
 }
 
+fn or_unfilled(bad: bool, slot: Slot) -> bool
+    ensures { λ r. ⌜ r ≡ bad || not (isFilled slot) ⌝ }
+{
+    bad || !slots::is_filled(slot)
+}
+
 // Whether the lent records are no table: there is another number of them than 32, or one is neither empty nor filled.
+// A key is read only where every field of its slot is zero: so no key of a filled slot is left behind by the test.
 pub fn is_no_table(t: &[Slot]) -> bool
     ensures { λ r. ⌜ r ≡ isNoTable (now (t .entry)) ⌝ }
 {
@@ -21,8 +28,11 @@ pub fn is_no_table(t: &[Slot]) -> bool
         bad = false;
         let mut i: usize = 0;
         while i < 32 {
-            if !slots::is_filled(t[i]) {
+            if slots::has_no_fields(t[i]) {
                 let worse = or_bad(bad, t[i]);
+                bad = worse;
+            } else {
+                let worse = or_unfilled(bad, t[i]);
                 bad = worse;
             }
             i += 1;

@@ -83,6 +83,14 @@ fn is_no_fields(f: Fields) -> bool
     f.version == 0 && (f.algorithm | f.usage | f.side | f.place) == 0
 }
 
+// Whether a slot shows nothing. Where it shows a field, its key has no say in what it is.
+pub fn has_no_fields(slot: Slot) -> bool
+    ensures { λ r. ⌜ r ≡ isNoFields (slot .fields) ⌝ }
+{
+    let f = slot.fields;
+    is_no_fields(f)
+}
+
 // No branch on a byte: quick, and the same work for every key.
 fn all_zero(key: [u8; 24]) -> bool
     ensures { λ r. ⌜ r ≡ allZero key ⌝ }
