@@ -10,4 +10,8 @@ int measure_bench(void);
    missed. */
 int measure_traffic(void);
 
+/* Measures load, read, move, clear and a refused call, and prints a line for each. They have no bar. Returns 1 if a call
+   isn't answered as it must be. */
+int measure_slots(void);
+
 #endif

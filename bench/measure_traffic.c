@@ -6,15 +6,15 @@
 
 enum { ROUNDS = 101, SEED = 3 };
 
-/* A length, how many calls of it make a batch, and the most that traffic may take in units of the bench call; 0 where
-   there is no bar. */
+/* A length, how many calls of it make a batch, and the most that traffic may take in units of the bench call of as many
+   blocks. */
 struct size {
     size_t bits;
     int calls;
     double bar;
 };
 
-static const struct size sizes[] = {{8288, 4, 1.25}, {256, 20, 0}};
+static const struct size sizes[] = {{8288, 4, 1.03}, {256, 20, 1.18}};
 
 enum { SIZES = sizeof sizes / sizeof sizes[0] };
 
@@ -61,28 +61,16 @@ static void measure_size(const struct size *size, double medians[SHIFTS])
         medians[shift] = times_median(ratios[shift], ROUNDS);
 }
 
-static int worst_shift(const double medians[SHIFTS])
-{
-    int worst = 0;
-
-    for (int shift = 1; shift < SHIFTS; shift++)
-        if (medians[shift] > medians[worst])
-            worst = shift;
-    return worst;
-}
-
-/* Prints a line; returns 1 if its bar is missed. */
+/* Prints a line; returns 1 if its bar is missed. The bar is the median's over the shifts: the worst of 64 medians is the
+   machine's as much as the card's. */
 static int report_size(const struct size *size, double medians[SHIFTS])
 {
-    int shift = worst_shift(medians);
-    double worst = medians[shift], median = times_median(medians, SHIFTS);
-    int missed = size->bar > 0 && worst > size->bar;
+    double median = times_median(medians, SHIFTS), worst = medians[SHIFTS - 1];
+    int missed = median > size->bar;
 
-    printf("%6zu  traffic/card's bench call, over %d starts and skips: median %.2f, worst %.2f at start %d, skip %d",
-           size->bits, SHIFTS, median, worst, shift % 8, shift / 8);
-    if (size->bar > 0)
-        printf(", at most %.2f  %s", size->bar, missed ? "MISSED" : "pass");
-    printf("\n");
+    printf("%6zu  traffic/card's bench call of as many blocks, over %d starts and skips: median %.2f, worst %.2f, at most "
+           "%.2f  %s\n",
+           size->bits, SHIFTS, median, worst, size->bar, missed ? "MISSED" : "pass");
     return missed;
 }
 

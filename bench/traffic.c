@@ -37,5 +37,8 @@ uint8_t traffic_call(struct traffic *traffic, size_t *blocks)
 
 uint8_t traffic_bench(struct traffic *traffic, size_t *blocks)
 {
-    return inputs_call(card_bench, &traffic->input, blocks);
+    struct input *input = &traffic->input;
+
+    return card_bench(input->algorithm, input->key, input->key_len, input->iv, input->iv_len, input->buf,
+                      (traffic->skip + input->bits + 7) / 8, traffic->skip + input->bits, blocks);
 }

@@ -19,7 +19,8 @@ void traffic_taken(struct traffic *traffic, uint64_t *generator, uint64_t algori
 
 uint8_t traffic_call(struct traffic *traffic, size_t *blocks);
 
-/* The card's bench call with the same key, initial value, buffer and bits. */
+/* The card's bench call with the same key, initial value and buffer, of as many blocks: its bits end where those of
+   traffic end in the keystream. */
 uint8_t traffic_bench(struct traffic *traffic, size_t *blocks);
 
 #endif

@@ -1,5 +1,6 @@
 /* A key for sending only: loaded, moved, refused for receiving, used for sending. */
 #include "card.h"
+#include "card_wipe.h"
 #include <stdio.h>
 
 static struct card_slot table[CARD_SLOTS]; /* zeros: 32 empty slots */
@@ -31,5 +32,7 @@ int main(void) {
     for (size_t i = 0; i < sizeof text - 1; i++) printf("%02x", text[i]);
     printf("\nsend again: %d\n", traffic(CARD_SEND));
     printf("%s\n", (const char *)text);
-    return card_clear(table, CARD_SLOTS, 9);
+    number = card_clear(table, CARD_SLOTS, 9);
+    card_wipe_stack(); /* load and traffic left copies of the key below main, on the stack and in registers */
+    return (int)number;
 }

@@ -3,8 +3,8 @@
 #include <stdio.h>
 #include <string.h>
 
+#include "bound.h"
 #include "oracle.h"
-#include "secrets.h"
 #include "source.h"
 
 enum { PLACE = 28 };
@@ -12,7 +12,7 @@ enum { PLACE = 28 };
 static struct card_slot chosen[CARD_SLOTS], table[CARD_SLOTS];
 static uint8_t key[CARD_KEY_BYTES], iv[CARD_IV_BYTES], read_key[CARD_KEY_BYTES];
 static uint8_t text[CARD_RECORD_BYTES + 1], buffer[CARD_BUFFER_BYTES];
-static uint64_t number, target, direction, shown[6], there;
+static uint64_t number, target, other, direction, shown[6], there;
 static size_t length, start, skip, blocks, used, line;
 static uint16_t version;
 static uint8_t algorithm, usage, side, place;
@@ -66,23 +66,141 @@ static uint8_t make_record_write(void)
     return card_record_write(number, 1, algorithm, CARD_FOR_BOTH, 0, PLACE, key, buffer, sizeof buffer, &used);
 }
 
+/* Into a slot that is filled. */
+static uint8_t refused_load(void)
+{
+    return card_load(table, CARD_SLOTS, number, 1, algorithm, CARD_FOR_BOTH, 0, PLACE, key);
+}
+
+static uint8_t refused_move(void)
+{
+    return card_move(table, CARD_SLOTS, number, other, CARD_KEEP);
+}
+
+/* Of a slot that is empty. */
+static uint8_t refused_clear(void)
+{
+    return card_clear(table, CARD_SLOTS, target);
+}
+
+static uint8_t refused_read(void)
+{
+    return card_read(table, CARD_SLOTS, target, &there, &version, &algorithm, &usage, &side, &place);
+}
+
 /* Of a slot that there isn't. */
-static uint8_t make_refused(void)
+static uint8_t traffic_of_no_slot(void)
 {
     return card_traffic(table, CARD_SLOTS, direction, 0, iv, CARD_IV_BYTES, buffer, sizeof buffer, start, length, skip,
                         &blocks);
 }
 
+static uint8_t traffic_of_no_bits(void)
+{
+    return card_traffic(table, CARD_SLOTS, direction, number, iv, CARD_IV_BYTES, buffer, sizeof buffer, start, 0, skip,
+                        &blocks);
+}
+
+/* With a slot in the table that has a key and no fields. */
+static uint8_t traffic_beside_no_fields(void)
+{
+    memcpy(table[target - 1].key, chosen[other - 1].key, CARD_KEY_BYTES);
+    return make_traffic();
+}
+
+/* With a slot in the table that has a key, and fields that are none. */
+static uint8_t traffic_beside_bad_fields(void)
+{
+    table[other - 1].usage = CARD_FOR_BOTH + 1;
+    return make_traffic();
+}
+
+static uint8_t refused_bench(void)
+{
+    return card_bench(algorithm, key, CARD_KEY_BYTES, iv, CARD_IV_BYTES, buffer, sizeof buffer, 0, &blocks);
+}
+
+static uint8_t rust_load(void)
+{
+    return bound_load(target, algorithm, PLACE, key);
+}
+
+static uint8_t rust_move(void)
+{
+    return bound_move(number, target);
+}
+
+static uint8_t rust_clear(void)
+{
+    return bound_clear(number);
+}
+
+static uint8_t rust_read(void)
+{
+    return bound_read(number);
+}
+
+static uint8_t rust_traffic(void)
+{
+    return bound_traffic(direction, number, iv, buffer, sizeof buffer, start, length, skip);
+}
+
+static uint8_t rust_bench(void)
+{
+    return bound_bench(algorithm, key, iv, buffer, sizeof buffer, length);
+}
+
+static uint8_t rust_record_read(void)
+{
+    return bound_record_read(text, text_bytes);
+}
+
+static uint8_t rust_record_write(void)
+{
+    return bound_record_write(number, algorithm, PLACE, key, buffer, sizeof buffer);
+}
+
+/* A refused call, a read and every call of the Rust bindings. */
+static const struct bar nothing;
+
+/* Load, move and clear: the one key concerned. */
+static const struct bar its_key = {{{[THE_KEY] = 24}}, {{[THE_KEY] = 24}}};
+
+/* Traffic and bench: what they were seen to leave before calls worked on the table in place, but for the other keys. */
+static const struct bar its_cipher = {
+    {{[THE_KEY] = 24, [MODE_KEY] = 24, [MODE_VALUE] = 24, [SCHEDULE] = 456, [KEYSTREAM] = 32}},
+    {{[THE_KEY] = 24, [KEYSTREAM] = 16}},
+};
+
+/* The records: the key, and its digits in registers. */
+static const struct bar its_text = {{{[THE_KEY] = 24}}, {{[THE_KEY] = 24, [KEY_AS_TEXT] = 32}}};
+
 const struct keyed_call keyed_calls[KEYED_CALLS] = {
-    {"card_load", make_load, CARD_DONE, 1},
-    {"card_move", make_move, CARD_DONE, 1},
-    {"card_clear", make_clear, CARD_DONE, 1},
-    {"card_read", make_read, CARD_DONE, 1},
-    {"card_traffic", make_traffic, CARD_DONE, 1},
-    {"  refused", make_refused, CARD_SLOT_NUMBER, 1},
-    {"card_bench", make_bench, CARD_DONE, 1},
-    {"card_record_read", make_record_read, CARD_DONE, 1},
-    {"card_record_write", make_record_write, CARD_DONE, 0},
+    {"card_load", make_load, CARD_DONE, &its_key},
+    {"  refused with 9", refused_load, CARD_TARGET_FILLED, &nothing},
+    {"card_move", make_move, CARD_DONE, &its_key},
+    {"  refused with 9", refused_move, CARD_TARGET_FILLED, &nothing},
+    {"card_clear", make_clear, CARD_DONE, &its_key},
+    {"  refused with 8", refused_clear, CARD_SLOT_EMPTY, &nothing},
+    {"card_read", make_read, CARD_DONE, &nothing},
+    {"  refused with 8", refused_read, CARD_SLOT_EMPTY, &nothing},
+    {"card_traffic", make_traffic, CARD_DONE, &its_cipher},
+    {"  refused with 7", traffic_of_no_slot, CARD_SLOT_NUMBER, &nothing},
+    {"  refused with 4", traffic_of_no_bits, CARD_LENGTH, &nothing},
+    {"  with 16, key", traffic_beside_no_fields, CARD_TABLE, &nothing},
+    {"  with 16, fields", traffic_beside_bad_fields, CARD_TABLE, &nothing},
+    {"card_bench", make_bench, CARD_DONE, &its_cipher},
+    {"  refused with 4", refused_bench, CARD_LENGTH, &nothing},
+    {"card_record_read", make_record_read, CARD_DONE, &its_text},
+    {"card_record_write", make_record_write, CARD_DONE, &its_text},
+    {"Rust load", rust_load, CARD_DONE, &nothing},
+    {"Rust move_slot", rust_move, CARD_DONE, &nothing},
+    {"Rust clear", rust_clear, CARD_DONE, &nothing},
+    {"Rust read", rust_read, CARD_DONE, &nothing},
+    {"Rust traffic", rust_traffic, CARD_DONE, &nothing},
+    {"Rust bench", rust_bench, CARD_DONE, &nothing},
+    {"Rust record_read", rust_record_read, CARD_DONE, &nothing},
+    {"Rust record_write", rust_record_write, CARD_DONE, &nothing},
 };
 
 /* All slots are filled but the target. */
@@ -90,6 +208,7 @@ static void choose_table(uint64_t *generator)
 {
     number = 1 + generator_next(generator) % CARD_SLOTS;
     target = 1 + number % CARD_SLOTS;
+    other = 1 + target % CARD_SLOTS;
     memset(chosen, 0, sizeof chosen);
     for (uint64_t i = 1; i <= CARD_SLOTS; i++) {
         if (i == target)
@@ -148,5 +267,6 @@ void calls_restore(void)
 {
     algorithm = chosen[number - 1].algorithm;
     memcpy(table, chosen, sizeof table);
+    bound_take(table);
     memset(buffer, 0, sizeof buffer);
 }

@@ -4,15 +4,21 @@
 #define CALLS_H
 
 #include "card.h"
+#include "secrets.h"
+
+/* The most that a call may leave of each secret. What isn't named is 0. */
+struct bar {
+    struct found on_stack, in_registers;
+};
 
 struct keyed_call {
     const char *name;
     uint8_t (*make)(void);
     uint8_t answer; /* what it must answer */
-    int leaves;     /* whether it leaves a secret on the stack; else at most in registers, by the C library's memcpy */
+    const struct bar *bar;
 };
 
-enum { KEYED_CALLS = 9 };
+enum { KEYED_CALLS = 25 };
 
 extern const struct keyed_call keyed_calls[KEYED_CALLS];
 

@@ -137,15 +137,32 @@ static int expect(int holds, const char *name, const char *fault)
     return !holds;
 }
 
+static int within(const struct found *found, const struct found *bar)
+{
+    for (int i = 0; i < SECRETS; i++)
+        if (found->bytes[i] > bar->bytes[i])
+            return 0;
+    return 1;
+}
+
 static int judge(int i)
 {
     const char *name = keyed_calls[i].name;
-    size_t before = sum(&bare[i].on_stack);
+    const struct bar *bar = keyed_calls[i].bar;
 
-    return expect(before > 0 || !keyed_calls[i].leaves, name, "nothing is found before the wipe: is it looked for?") +
+    return expect(within(&bare[i].on_stack, &bar->on_stack), name, "more is left on the stack than its bar") +
+           expect(within(&bare[i].in_registers, &bar->in_registers), name, "more is left in registers than its bar") +
            expect(sum(&wiped[i].on_stack) == 0, name, "the wipe leaves something on the stack") +
-           expect(sum(&wiped[i].in_registers) == 0 || !REGISTERS_SEEN, name, "the wipe leaves something in registers") +
-           expect(bare[i].stack <= CARD_WIPE_BYTES / 2, name, "more than half of what is wiped is used");
+           expect(sum(&wiped[i].in_registers) == 0 || !REGISTERS_SEEN, name, "the wipe leaves something in registers");
+}
+
+/* Each call by itself: a Rust call's stack has its wipe in it. */
+static int judge_stack(int i)
+{
+    int wipes = strncmp(keyed_calls[i].name, "Rust", 4) == 0;
+
+    return expect(wipes || bare[i].stack <= CARD_WIPE_BYTES / 2, keyed_calls[i].name,
+                  "more than half of what is wiped is used");
 }
 
 int main(int count_of_words, char **words)
@@ -165,8 +182,9 @@ int main(int count_of_words, char **words)
     print_table("after the call alone: bytes found", bare);
     print_table("after the call and card_wipe_stack: bytes found", wiped);
     for (int i = 0; i < KEYED_CALLS; i++)
-        faults += judge(i);
+        faults += judge(i) + judge_stack(i);
+    faults += expect(sum(&bare[0].on_stack) > 0, keyed_calls[0].name, "nothing is found before the wipe: is it looked for?");
     if (faults == 0)
-        printf("hygiene: %d rounds: all that is planted is found, and nothing is found after the wipe\n", rounds);
+        printf("hygiene: %d rounds: all that is planted is found, no call leaves more than its bar, and nothing is found after the wipe\n", rounds);
     return faults > 0;
 }

@@ -4,11 +4,13 @@
 //! The header asks three things of its callers. Pointers that aren't null and are good for their length:
 //! they come from references and slices here, and an empty slice's pointer isn't null. No overlap with
 //! what is written to, and no other thread at it: that is what `&mut` says.
+//!
+//! Each function that lends the card a key wipes the stack below itself after the call.
 
 use std::ptr;
 use std::sync::atomic::{compiler_fence, Ordering};
 
-use crate::{Asked, Fields, Key, Pdu, Record, Refusal, Slot, Span, KEY_BYTES};
+use crate::{wipe, Asked, Fields, Key, Pdu, Record, Refusal, Slot, Span, KEY_BYTES};
 
 extern "C" {
     fn card_load(
@@ -127,18 +129,21 @@ pub fn load(
             key.as_ptr(),
         )
     };
+    wipe::stack_below();
     answered(answer, ())
 }
 
 pub fn move_slot(table: &mut [Slot], from: u64, to: u64, asked: u64) -> Result<(), Refusal> {
     // Safety: the pointer is good for the table's slots, and the library doesn't keep it.
     let answer = unsafe { card_move(table.as_mut_ptr(), table.len(), from, to, asked) };
+    wipe::stack_below();
     answered(answer, ())
 }
 
 pub fn clear(table: &mut [Slot], number: u64) -> Result<(), Refusal> {
     // Safety: the pointer is good for the table's slots, and the library doesn't keep it.
     let answer = unsafe { card_clear(table.as_mut_ptr(), table.len(), number) };
+    wipe::stack_below();
     answered(answer, ())
 }
 
@@ -160,6 +165,7 @@ pub fn read(table: &[Slot], number: u64) -> Result<Fields, Refusal> {
             &mut place,
         )
     };
+    wipe::stack_below();
     answered(answer, ())?;
     Fields::reported([
         version.into(),
@@ -196,6 +202,7 @@ pub fn traffic(
             &mut blocks,
         )
     };
+    wipe::stack_below();
     answered(answer, blocks)
 }
 
@@ -221,6 +228,7 @@ pub fn bench(
             &mut blocks,
         )
     };
+    wipe::stack_below();
     answered(answer, blocks)
 }
 
@@ -240,6 +248,7 @@ pub fn record_read(text: &[u8]) -> Result<Record, Refusal> {
             &mut line,
         )
     };
+    wipe::stack_below();
     let [number, fields @ ..] = shown;
     match answered(answer, ()) {
         Err(Refusal::RecordText { .. }) => Err(Refusal::RecordText { line: line as u8 }),
@@ -275,6 +284,7 @@ pub fn record_write(
             &mut length,
         )
     };
+    wipe::stack_below();
     answered(answer, length)
 }
 

@@ -13,6 +13,8 @@ mod record;
 mod refusal;
 mod span;
 mod table;
+#[allow(unsafe_code)]
+mod wipe;
 
 pub use bench::bench;
 pub use code::{Algorithm, Code, Direction, PduKind, Use, KEEP};
@@ -23,6 +25,7 @@ pub use record::{record_read, record_write, Record};
 pub use refusal::Refusal;
 pub use span::Span;
 pub use table::{Slot, Table};
+pub use wipe::WIPED_BYTES;
 
 /// The slots of a table. They are numbered from 1.
 pub const SLOTS: usize = 32;

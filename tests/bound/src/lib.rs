@@ -1,0 +1,139 @@
+//! The Rust bindings' calls for C, on a table that is held here, so that tests/hygiene can look at what they
+//! leave. `bound.h` declares them. The second program is in the same library, since two of Rust's can't be
+//! linked to one program.
+//!
+//! Safety, for each function: every pointer is good for what bound.h says stands there.
+
+extern crate oracle;
+
+use std::slice::{from_raw_parts, from_raw_parts_mut};
+use std::sync::Mutex;
+
+use card::{Asked, Refusal, Slot, Span, Table, IV_BYTES, KEEP, KEY_BYTES, SLOTS};
+
+static TABLE: Mutex<Option<Table>> = Mutex::new(None);
+
+const BOTH: u64 = 3;
+
+fn number<T>(answer: Result<T, Refusal>) -> u8 {
+    answer.err().map_or(0, Refusal::number)
+}
+
+fn on_table<T>(call: impl FnOnce(&mut Table) -> Result<T, Refusal>) -> u8 {
+    let mut held = TABLE.lock().unwrap();
+    number(call(held.get_or_insert_default()))
+}
+
+fn asked(algorithm: u64, place: u64) -> Asked {
+    Asked {
+        version: 1,
+        algorithm,
+        usage: BOTH,
+        side: 0,
+        place,
+    }
+}
+
+/// # Safety
+/// As for the crate.
+#[no_mangle]
+pub unsafe extern "C" fn bound_take(table: *const Slot) -> u8 {
+    match Table::try_from(from_raw_parts(table, SLOTS)) {
+        Ok(taken) => {
+            *TABLE.lock().unwrap() = Some(taken);
+            0
+        }
+        Err(refusal) => refusal.number(),
+    }
+}
+
+/// # Safety
+/// As for the crate.
+#[no_mangle]
+pub unsafe extern "C" fn bound_load(
+    number: u64,
+    algorithm: u64,
+    place: u64,
+    key: &[u8; KEY_BYTES],
+) -> u8 {
+    on_table(|table| table.load(number, asked(algorithm, place), key))
+}
+
+#[no_mangle]
+pub extern "C" fn bound_move(from: u64, to: u64) -> u8 {
+    on_table(|table| table.move_slot(from, to, KEEP))
+}
+
+#[no_mangle]
+pub extern "C" fn bound_clear(number: u64) -> u8 {
+    on_table(|table| table.clear(number))
+}
+
+#[no_mangle]
+pub extern "C" fn bound_read(number: u64) -> u8 {
+    on_table(|table| table.read(number))
+}
+
+/// # Safety
+/// As for the crate.
+#[no_mangle]
+pub unsafe extern "C" fn bound_traffic(
+    direction: u64,
+    number: u64,
+    iv: &[u8; IV_BYTES],
+    buffer: *mut u8,
+    buffer_bytes: usize,
+    start: usize,
+    length: usize,
+    skip: usize,
+) -> u8 {
+    let buffer = from_raw_parts_mut(buffer, buffer_bytes);
+    let span = Span {
+        start,
+        length,
+        skip,
+    };
+    on_table(|table| table.traffic(direction, number, iv, buffer, span))
+}
+
+/// # Safety
+/// As for the crate.
+#[no_mangle]
+pub unsafe extern "C" fn bound_bench(
+    algorithm: u64,
+    key: &[u8; KEY_BYTES],
+    iv: &[u8; IV_BYTES],
+    buffer: *mut u8,
+    buffer_bytes: usize,
+    length: usize,
+) -> u8 {
+    let buffer = from_raw_parts_mut(buffer, buffer_bytes);
+    number(card::bench(algorithm, key, iv, buffer, length))
+}
+
+/// # Safety
+/// As for the crate.
+#[no_mangle]
+pub unsafe extern "C" fn bound_record_read(text: *const u8, text_bytes: usize) -> u8 {
+    number(card::record_read(from_raw_parts(text, text_bytes)))
+}
+
+/// # Safety
+/// As for the crate.
+#[no_mangle]
+pub unsafe extern "C" fn bound_record_write(
+    slot: u64,
+    algorithm: u64,
+    place: u64,
+    key: &[u8; KEY_BYTES],
+    buffer: *mut u8,
+    buffer_bytes: usize,
+) -> u8 {
+    let buffer = from_raw_parts_mut(buffer, buffer_bytes);
+    number(card::record_write(
+        slot,
+        asked(algorithm, place),
+        key,
+        buffer,
+    ))
+}
