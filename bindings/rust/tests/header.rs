@@ -78,3 +78,10 @@ fn the_kinds_of_a_pdu_are_the_headers() {
     ];
     assert_eq!(kinds.map(u64::from), [1, 2, 3]);
 }
+
+#[test]
+fn as_much_is_wiped_as_from_c() {
+    let wipe = include_str!("../../../include/card_wipe.h");
+    let line = format!("#define CARD_WIPE_BYTES {}\n", card::WIPED_BYTES);
+    assert!(wipe.contains(&line));
+}
