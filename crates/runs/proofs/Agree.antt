@@ -1,116 +1,94 @@
 -- What is seen of twin calls in two related states agrees, but for bits that may differ: on any card that has the local facts. Assumes nothing.
-use mathlib.Core.Bool.{Bool}
-use mathlib.Core.List.{List, []}
+use mathlib.Core.Bool.{Bool, true, false}
+use mathlib.Core.List.{List}
 use mathlib.Core.Logic.{_⊎_, inl, inr, ⊎-elim}
 use mathlib.Core.Path.{_≡_, refl, sym, ap, _∙_}
-use Prim.Native.Nat.{ℕ, _+_, _<_, _≤_}
+use Prim.Native.Nat.{ℕ}
+use lib.ListN.{length}
 use Rattle.laws.specs.Bits.{bitAt}
 use Rattle.laws.proofs.Cases.{eq-or-ne}
 use Rattle.refusals.specs.Numbers.{done}
 use Rattle.slots.specs.declared.Slot.{Slot}
-use Rattle.slots.specs.declared.Shown.{Shown}
-use Rattle.slots.specs.Slots.{noFields}
-use Rattle.span.proofs.Within.{Beside, in-or-out}
-use Rattle.runs.specs.Calls.{Call, load, move, clear, read, traffic, TwinCalls, same, other-key}
-use Rattle.runs.specs.Card.{Card}
-use Rattle.runs.specs.Step.{step}
+use Rattle.runs.specs.Calls.{Use, Work, spanOf, Call, load, move, clear, read, traffic, Origin, TwinCalls, same, other-key}
+use Rattle.runs.specs.Step.{Seen}
+use Rattle.runs.specs.Card.{Card, step}
 use Rattle.runs.specs.Trace.{Trace}
 use Rattle.runs.specs.Run.{State}
 use Rattle.runs.specs.Demand.{MayDiffer, Agree}
 use Rattle.runs.proofs.Local.{Local}
 use Rattle.runs.proofs.Related.{Chosen, Related}
 
--- a call that gives a refusal alone
-pub told : (chosen : ℕ → Bool) (c : Call) (trace : Trace) (r q : ℕ) → r ≡ q
-    → Agree chosen c trace (record { refusal = r; blocks = 0; number = 0; fields = noFields; buffer = [] }) (record { refusal = q; blocks = 0; number = 0; fields = noFields; buffer = [] })
-told chosen c trace r q e = record { refusal = e; blocks = refl; number = refl; fields = refl; size = refl; bits = λ j. inl refl }
+-- what is the same agrees
+pub same-agrees : (chosen : Origin → Bool) (c : Call) (trace : Trace) (x y : Seen) → x ≡ y → Agree chosen c trace x y
+same-agrees chosen c trace x y e = record {
+  refusal = ap (λ (v : Seen). v .refusal) e;
+  blocks = ap (λ (v : Seen). v .blocks) e;
+  number = ap (λ (v : Seen). v .number) e;
+  fields = ap (λ (v : Seen). v .fields) e;
+  size = ap (λ (v : Seen). length (v .buffer)) e;
+  bits = λ j. inl (ap (λ (v : Seen). bitAt (v .buffer) j) e);
+}
 
-module _ (card : Card) (facts : Local card) (chosen : ℕ → Bool) (all : List Call) (s t : State) (h : Related chosen all s t) where
-  module _ (direction number : ℕ) (iv buf : List ℕ) (begin n skip : ℕ) where
+module _ (card : Card) (facts : Local card) (chosen : Origin → Bool) (first : List Slot) (all : List Call) (s t : State) (h : Related chosen first all s t) where
+  module _ (how : Use) (buf : List ℕ) (w : Work) where
     abbrev call : Call
-    call = traffic direction number iv buf begin n skip
+    call = traffic how buf w
 
-    abbrev refusal : ℕ
-    refusal = card .refusal (s .table) direction number iv buf begin n skip
+    abbrev seenOn : List Slot → Seen
+    seenOn table = card .traffic table how buf w .seen
 
-    abbrev bit : List Slot → ℕ → ℕ
-    bit table = bitAt (card .buffer table direction number iv buf begin n skip)
+    same-refusal : seenOn (s .table) .refusal ≡ seenOn (t .table) .refusal
+    same-refusal = facts .refusal-blind (s .table) (t .table) (h .alike) how buf w
 
-    same-refusal : refusal ≡ card .refusal (t .table) direction number iv buf begin n skip
-    same-refusal = facts .refusal-blind (s .table) (t .table) (h .alike) direction number iv buf begin n skip
-
-    differs : (j : ℕ) → refusal ≡ done → begin ≤ j → j < begin + n → Chosen chosen (s .trace number) → MayDiffer chosen call (s .trace) (step card (s .table) call .seen) j
-    unfolding step
-    differs j e low high origin = record {
-      ciphers = record {
-        direction = direction;
-        number = number;
-        iv = iv;
-        buf = buf;
-        start = begin;
-        n = n;
-        skip = skip;
-        origin = origin .load;
-        call = refl;
-        accepted = e;
-        traced = origin .traced;
-      };
-      low = low;
-      high = high;
+    differs : (j : ℕ) → seenOn (s .table) .refusal ≡ done → spanOf w buf j ≡ true → Chosen chosen (s .trace (how .number)) → MayDiffer chosen call (s .trace) (seenOn (s .table)) j
+    differs j e inside origin = record {
+      ciphers = record { how = how; buf = buf; work = w; origin = origin .first; call = refl; accepted = e; traced = origin .traced };
+      inside = inside;
       picked = origin .picked;
     }
 
-    bits-agree : (j : ℕ) → (bit (s .table) j ≡ bit (t .table) j) ⊎ MayDiffer chosen call (s .trace) (step card (s .table) call .seen) j
+    abbrev Bit : ℕ → Type 0
+    Bit j = (bitAt (seenOn (s .table) .buffer) j ≡ bitAt (seenOn (t .table) .buffer) j) ⊎ MayDiffer chosen call (s .trace) (seenOn (s .table)) j
+
+    -- a call that was accepted, on a slot of two keys
+    two-keys : (j : ℕ) → seenOn (s .table) .refusal ≡ done → Chosen chosen (s .trace (how .number)) → (t : Bool) → spanOf w buf j ≡ t → Bit j
+    two-keys j e origin true inside = inr (differs j e inside origin)
+    two-keys j e origin false beside =
+        inl (facts .beside-stays (s .table) how buf w j beside ∙ sym (facts .beside-stays (t .table) how buf w j beside))
+
+    bits-agree : (j : ℕ) → Bit j
     bits-agree j =
         ⊎-elim
         (λ e.
         ⊎-elim
-        (λ key. inl (ap (λ (l : List ℕ). bitAt l j) (facts .own-key-alone (s .table) (t .table) (h .alike) direction number iv buf begin n skip key)))
-        (λ origin.
-        in-or-out begin n j
-        (λ low high. inr (differs j e low high origin))
-        (λ beside. inl (rw (stays (s .table) j beside, stays (t .table) j beside))))
-        (h .slots .at number (facts .on-a-filled-slot (s .table) direction number iv buf begin n skip e .numbered) .key))
-        (λ ne. inl (ap (λ (l : List ℕ). bitAt l j) (left (s .table) ne ∙ sym (left (t .table) (λ e. ne (same-refusal ∙ e))))))
-        (eq-or-ne refusal done)
-      where
-        stays : (table : List Slot) (j : ℕ) → Beside begin n j → bit table j ≡ bitAt buf j
-        stays table = facts .beside-stays table direction number iv buf begin n skip
+        (λ key. inl (ap (λ (l : List ℕ). bitAt l j) (facts .own-key-alone (s .table) (t .table) (h .alike) how buf w key)))
+        (λ origin. two-keys j e origin (spanOf w buf j) refl)
+        (h .slots .at (how .number) (facts .on-a-filled-slot (s .table) how buf w e .numbered) .key))
+        (λ ne.
+        let left = facts .refused-stays (s .table) how buf w ne in
+        let right = facts .refused-stays (t .table) how buf w (λ e. ne (same-refusal ∙ e)) in
+        inl (ap (λ (l : List ℕ). bitAt l j) (left ∙ sym right)))
+        (eq-or-ne (seenOn (s .table) .refusal) done)
 
-        left : (table : List Slot) → (card .refusal table direction number iv buf begin n skip ≡ done → ⊥) → card .buffer table direction number iv buf begin n skip ≡ buf
-        left table = facts .refused-stays table direction number iv buf begin n skip
-
-    traffic-agree : Agree chosen call (s .trace) (step card (s .table) call .seen) (step card (t .table) call .seen)
-    unfolding step
+    traffic-agree : Agree chosen call (s .trace) (seenOn (s .table)) (seenOn (t .table))
     traffic-agree = record {
       refusal = same-refusal;
-      blocks = facts .blocks-blind (s .table) (t .table) (h .alike) direction number iv buf begin n skip;
-      number = refl;
-      fields = refl;
-      size =
-          facts .size-stays (s .table) direction number iv buf begin n skip
-          ∙ sym (facts .size-stays (t .table) direction number iv buf begin n skip);
+      blocks = facts .blocks-blind (s .table) (t .table) (h .alike) how buf w;
+      number = facts .number-blind (s .table) (t .table) (h .alike) how buf w;
+      fields = facts .fields-blind (s .table) (t .table) (h .alike) how buf w;
+      size = facts .size-stays (s .table) how buf w ∙ sym (facts .size-stays (t .table) how buf w);
       bits = bits-agree;
     }
 
   same-agree : (c : Call) → Agree chosen c (s .trace) (step card (s .table) c .seen) (step card (t .table) c .seen)
   unfolding step
-  same-agree (load number a key) = told _ _ _ _ _ (facts .load-blind (s .table) (t .table) number a key key (h .alike) .refusal)
-  same-agree (move from to asked) = told _ _ _ _ _ (facts .move-blind (s .table) (t .table) from to asked (h .alike) .refusal)
-  same-agree (clear number) = told _ _ _ _ _ (facts .clear-blind (s .table) (t .table) number (h .alike) .refusal)
-  same-agree (read number) =
-      let e = facts .read-blind (s .table) (t .table) number (h .alike) in
-      record {
-        refusal = ap (λ (v : Shown). v .refusal) e;
-        blocks = refl;
-        number = ap (λ (v : Shown). v .number) e;
-        fields = ap (λ (v : Shown). v .fields) e;
-        size = refl;
-        bits = λ j. inl refl;
-      }
-  same-agree (traffic direction number iv buf begin n skip) = traffic-agree direction number iv buf begin n skip
+  same-agree (load number a key) = same-agrees _ _ _ _ _ (facts .load-blind (s .table) (t .table) number a key key (h .alike) .seen)
+  same-agree (move from to asked) = same-agrees _ _ _ _ _ (facts .move-blind (s .table) (t .table) from to asked (h .alike) .seen)
+  same-agree (clear number) = same-agrees _ _ _ _ _ (facts .clear-blind (s .table) (t .table) number (h .alike) .seen)
+  same-agree (read number) = same-agrees _ _ _ _ _ (facts .read-blind (s .table) (t .table) number (h .alike))
+  same-agree (traffic how buf w) = traffic-agree how buf w
 
   pub twins-agree : {c d : Call} → TwinCalls chosen (s .place) c d → Agree chosen c (s .trace) (step card (s .table) c .seen) (step card (t .table) d .seen)
   unfolding step
   twins-agree (same c) = same-agree c
-  twins-agree (other-key number a key other picked) = told _ _ _ _ _ (facts .load-blind (s .table) (t .table) number a key other (h .alike) .refusal)
+  twins-agree (other-key number a key other picked) = same-agrees _ _ _ _ _ (facts .load-blind (s .table) (t .table) number a key other (h .alike) .seen)

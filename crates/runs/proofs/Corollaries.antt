@@ -1,69 +1,73 @@
--- What people quote of demand 3, each from the theorem. Assumes nothing.
+-- What people quote of demand 3, each from the theorem, from any table without a bad slot. Assumes nothing.
 use mathlib.Core.Bool.{true, false, true≢false}
 use mathlib.Core.List.{List, [], _∷_}
 use mathlib.Core.Option.{Option, none, some}
-use mathlib.Core.Path.{_≡_, refl, sym, _∙_}
+use mathlib.Core.Path.{_≡_, refl, sym, ap, _∙_}
 use Prim.Native.Nat.{ℕ}
 use native.Mathlib.Omega.{arith}
+use lib.ListN.{length}
 use Rattle.refusals.specs.Numbers.{done}
-use Rattle.fields.specs.declared.Asked.{Asked}
 use Rattle.fields.specs.Fields.{isSlotNumber}
 use Rattle.slots.specs.declared.Slot.{Slot}
-use Rattle.slots.specs.Slots.{slotAt}
+use Rattle.slots.specs.Slots.{emptyTable, slotAt, hasBad}
 use Rattle.slots.specs.Rights.{within}
 use Rattle.slots.proofs.Passed.{SlotPassed}
-use Rattle.runs.specs.Calls.{Call, load, traffic, Twins, end, more, same}
+use Rattle.runs.specs.Calls.{Use, Work, Call, traffic, Origin, Twins, end, more, same, Starts}
 use Rattle.runs.specs.Card.{ourCard}
 use Rattle.runs.specs.Run.{callAt, seenAt, tableAt, traceAt}
-use Rattle.runs.specs.Demand.{Ciphers, SendOnly, Kept, Holds, Meets}
+use Rattle.runs.specs.Demand.{Ciphers, given, Kept, Holds, Meets}
 use Rattle.runs.proofs.Facts.{our-facts}
-use Rattle.runs.proofs.Demand.{demand-3, taken}
+use Rattle.runs.proofs.Start.{itself}
+use Rattle.runs.proofs.Demand.{demand-3, demand-3-from, taken}
 
 -- no refusal ever depends on a key byte: whatever keys stand at the loads of a list, the refusals are the same
-pub no-refusal-depends-on-a-key : (cs ds : List Call) → Twins (λ place. true) 0 cs ds → (i : ℕ) → seenAt ourCard cs i .refusal ≡ seenAt ourCard ds i .refusal
-no-refusal-depends-on-a-key cs ds twins i = demand-3 (λ place. true) cs ds twins .agree i .refusal
+pub no-refusal-depends-on-a-key : (cs ds : List Call) → Twins (λ origin. true) 0 cs ds → (i : ℕ) → seenAt ourCard emptyTable cs i .refusal ≡ seenAt ourCard emptyTable ds i .refusal
+no-refusal-depends-on-a-key cs ds twins i = demand-3 (λ origin. true) cs ds twins .agree i .refusal
 
--- a list is its own twin, with no load chosen
+-- a list and a table are their own twins, with nothing chosen
 
-itself : (cs : List Call) {place : ℕ} → Twins (λ p. false) place cs cs
-itself [] = end
-itself (c ∷ cs) = more (same c) (itself cs)
+same-list : (cs : List Call) {place : ℕ} → Twins (λ origin. false) place cs cs
+same-list [] = end
+same-list (c ∷ cs) = more (same c) (same-list cs)
 
-module _ (cs : List Call) where
-  alone : Meets ourCard (λ place. false) cs cs
-  alone = demand-3 (λ place. false) cs cs (itself cs)
+module _ (table : List Slot) (size : length table ≡ 32) (sound : hasBad table ≡ false) (cs : List Call) where
+  alone-starts : Starts (λ origin. false) table table
+  alone-starts = record { size = size; sound = sound; twins = itself (λ origin. false) table }
 
-  -- a key loaded for sending only never gives an accepted receive, through any moves
-  pub send-only-never-receives : (i : ℕ) (c : Ciphers (callAt cs i) (traceAt ourCard cs i) (seenAt ourCard cs i)) (a : Asked) → SendOnly (callAt cs (c .origin)) a → c .direction ≡ 2 → ⊥
-  send-only-never-receives i c a only receive = let send = alone .sends i c a only .send in omega arith
+  alone : Meets ourCard (λ origin. false) table table cs cs
+  alone = demand-3-from (λ origin. false) table table alone-starts cs cs (same-list cs)
 
-  -- an accepted traffic call uses a key that traces back to a load
-  pub traffic-has-an-origin : (i direction number : ℕ) (iv buf : List ℕ) (begin n skip : ℕ) → callAt cs i ≡ traffic direction number iv buf begin n skip → seenAt ourCard cs i .refusal ≡ done
-      → (origin : ℕ) × (traceAt ourCard cs i number ≡ some origin)
-  traffic-has-an-origin i direction number iv buf begin n skip call seen = go (traceAt ourCard cs i number) (alone .traces i number (used .numbered))
+  -- a key given for sending only never gives an accepted receive, through any moves
+  pub send-only-never-receives : (i : ℕ) (c : Ciphers (callAt cs i) (traceAt ourCard table cs i) (seenAt ourCard table cs i)) → given table cs (c .origin) .fields .usage ≡ 1 → c .how .direction ≡ 2 → ⊥
+  send-only-never-receives i c only receive = let send = alone .sends i c only .send in omega arith
+
+  -- an accepted traffic call uses a key that has an origin
+  pub traffic-has-an-origin : (i : ℕ) (how : Use) (buf : List ℕ) (w : Work) → callAt cs i ≡ traffic how buf w → seenAt ourCard table cs i .refusal ≡ done
+      → (origin : Origin) × (traceAt ourCard table cs i (how .number) ≡ some origin)
+  traffic-has-an-origin i how buf w call seen = go (traceAt ourCard table cs i (how .number)) (alone .traces i (how .number) (used .numbered))
     where
-      used : SlotPassed (tableAt ourCard cs i) number
+      used : SlotPassed (tableAt ourCard table cs i) (how .number)
       used =
-          our-facts .on-a-filled-slot _ direction number iv buf begin n skip
-          (taken ourCard our-facts (λ place. false) cs cs (itself cs) i direction number iv buf begin n skip call seen)
+          our-facts .on-a-filled-slot _ how buf w
+          (taken ourCard our-facts (λ origin. false) table table alone-starts cs cs (same-list cs) i how buf w call seen)
 
-      go : (origin : Option ℕ) → Holds cs origin (slotAt (tableAt ourCard cs i) number) → (place : ℕ) × (origin ≡ some place)
+      go : (origin : Option Origin) → Holds table cs origin (slotAt (tableAt ourCard table cs i) (how .number)) → (first : Origin) × (origin ≡ some first)
       go none h = absurd (true≢false (sym h ∙ used .there))
-      go (some place) h = (place, refl)
+      go (some first) h = (first, refl)
 
-  -- a slot whose key comes from a load of these fields, after any calls
-  module _ (i number origin from : ℕ) (a : Asked) (key : List ℕ) (numbered : isSlotNumber number ≡ true) (traced : traceAt ourCard cs i number ≡ some origin) (loaded : callAt cs origin ≡ load from a key) where
+  -- a slot whose key has this origin, after any calls
+  module _ (i number : ℕ) (origin : Origin) (numbered : isSlotNumber number ≡ true) (traced : traceAt ourCard table cs i number ≡ some origin) where
     abbrev slot : Slot
-    slot = slotAt (tableAt ourCard cs i) number
+    slot = slotAt (tableAt ourCard table cs i) number
 
-    kept : Kept a key slot
-    kept = rw (traced, loaded) at (alone .traces i number numbered)
+    kept : Kept (given table cs origin) slot
+    kept = rw traced at (alone .traces i number numbered)
 
-    pub use-never-widens : within (slot .fields .usage) (a .usage) ≡ true
+    pub use-never-widens : within (slot .fields .usage) (given table cs origin .fields .usage) ≡ true
     use-never-widens = kept .usage
 
-    pub side-never-changes : slot .fields .side ≡ a .side
-    side-never-changes = kept .side
+    pub side-never-changes : slot .fields .side ≡ given table cs origin .fields .side
+    side-never-changes = ap (λ (s : Slot). s .fields .side) (kept .rest)
 
-    pub place-never-changes : slot .fields .place ≡ a .place
-    place-never-changes = kept .place
+    pub place-never-changes : slot .fields .place ≡ given table cs origin .fields .place
+    place-never-changes = ap (λ (s : Slot). s .fields .place) (kept .rest)

@@ -6,16 +6,16 @@ use Prim.Native.Nat.{ℕ}
 use lib.ListN.{replicate}
 use Rattle.laws.specs.Bits.{bitOf, bitAt}
 use Rattle.fields.specs.declared.Asked.{Asked}
-use Rattle.slots.specs.Slots.{allZero, isEmpty, isFilled, isBad, hasBad}
+use Rattle.slots.specs.Slots.{allZero, isEmpty, isFilled, isBad, hasBad, emptyTable}
 use Rattle.slots.specs.Calls.{loadRefusalOf, moveRefusalOf, slotRefusalOf, clearRefusalOf}
 use Rattle.span.specs.Span.{blocksUsed}
 use Rattle.card.specs.Span.{spanRefusal}
 use Rattle.card.specs.Traffic.{useRefusalOf, trafficRefusalOf, trafficBlocksOf}
-use Rattle.runs.specs.Calls.{Call, load, move, clear, read, traffic}
-use Rattle.runs.specs.Card.{ourCard}
-use Rattle.runs.specs.Step.{Seen, step}
+use Rattle.runs.specs.Calls.{span, Call, load, move, clear, read, traffic, loadAt}
+use Rattle.runs.specs.Step.{Seen}
+use Rattle.runs.specs.Card.{ourCard, step}
 use Rattle.runs.specs.Trace.{traced}
-use Rattle.runs.specs.Run.{start, next, run, stateAt, traceAt}
+use Rattle.runs.specs.Run.{startOf, next, run, stateAt, traceAt}
 
 -- a key of TEA6 for sending only, with side 0 at place 28; and a key of TEA5 for both, with side 1 at place 0
 
@@ -32,15 +32,18 @@ ivWith x y = x ∷ 0 ∷ 0 ∷ y ∷ replicate 6 0
 abbrev pdu : List ℕ
 pdu = 0xa5 ∷ 0x3c ∷ []
 
+abbrev ciphered : ℕ → ℕ → List ℕ → ℕ → ℕ → ℕ → Call
+ciphered direction number iv start n skip = traffic (record { direction = direction; number = number; iv = iv }) pdu (span start n skip)
+
 abbrev pub example : List ℕ → List ℕ → List Call
 example key other =
     load 1 sendOnly key
     ∷ load 2 both other
     ∷ move 1 3 0
-    ∷ traffic 2 3 (ivWith 0 8) pdu 3 8 0
-    ∷ traffic 1 3 (ivWith 0 8) pdu 3 8 0
-    ∷ traffic 1 3 (ivWith 0 0) pdu 3 8 0
-    ∷ traffic 1 2 (ivWith 128 0) pdu 0 16 255
+    ∷ ciphered 2 3 (ivWith 0 8) 3 8 0
+    ∷ ciphered 1 3 (ivWith 0 8) 3 8 0
+    ∷ ciphered 1 3 (ivWith 0 0) 3 8 0
+    ∷ ciphered 1 2 (ivWith 128 0) 0 16 255
     ∷ move 3 4 3
     ∷ read 3
     ∷ clear 3
@@ -48,15 +51,15 @@ example key other =
     ∷ []
 
 module _ (key other : List ℕ) where
-  pub refusals : map (λ (x : Seen). x .refusal) (run ourCard start (example key other)) ≡ 0 ∷ 0 ∷ 0 ∷ 12 ∷ 13 ∷ 0 ∷ 0 ∷ 14 ∷ 0 ∷ 0 ∷ 8 ∷ []
+  pub refusals : map (λ (x : Seen). x .refusal) (run ourCard (startOf emptyTable) (example key other)) ≡ 0 ∷ 0 ∷ 0 ∷ 12 ∷ 13 ∷ 0 ∷ 0 ∷ 14 ∷ 0 ∷ 0 ∷ 8 ∷ []
   unfolding run next step traced loadRefusalOf moveRefusalOf slotRefusalOf clearRefusalOf useRefusalOf trafficRefusalOf spanRefusal hasBad isBad isFilled isEmpty allZero bitAt bitOf
   refusals = refl
 
-  pub blocks : map (λ (x : Seen). x .blocks) (run ourCard start (example key other)) ≡ 0 ∷ 0 ∷ 0 ∷ 0 ∷ 0 ∷ 1 ∷ 2 ∷ 0 ∷ 0 ∷ 0 ∷ 0 ∷ []
+  pub blocks : map (λ (x : Seen). x .blocks) (run ourCard (startOf emptyTable) (example key other)) ≡ 0 ∷ 0 ∷ 0 ∷ 0 ∷ 0 ∷ 1 ∷ 2 ∷ 0 ∷ 0 ∷ 0 ∷ 0 ∷ []
   unfolding run next step traced loadRefusalOf moveRefusalOf slotRefusalOf clearRefusalOf useRefusalOf trafficRefusalOf trafficBlocksOf blocksUsed spanRefusal hasBad isBad isFilled isEmpty allZero bitAt bitOf
   blocks = refl
 
   -- the key of the accepted send, call 5, comes from the load at place 0
-  pub origin : traceAt ourCard (example key other) 5 3 ≡ some 0
+  pub origin : traceAt ourCard emptyTable (example key other) 5 3 ≡ some (loadAt 0)
   unfolding run next step stateAt traced loadRefusalOf moveRefusalOf slotRefusalOf clearRefusalOf useRefusalOf trafficRefusalOf spanRefusal hasBad isBad isFilled isEmpty allZero bitAt bitOf
   origin = refl

@@ -7,9 +7,9 @@ use lib.ListN.{length}
 use Rattle.fields.specs.declared.Asked.{Asked}
 use Rattle.slots.specs.declared.Slot.{Slot}
 use Rattle.card.specs.Table.{loadedIn, movedIn, clearedIn, shownIn, trafficRefusalIn, trafficBlocksIn, traffickedIn}
-use Rattle.runs.specs.Calls.{load, move, clear, read, traffic}
-use Rattle.runs.specs.Card.{ourCard}
-use Rattle.runs.specs.Step.{changing, reading, ciphering, step}
+use Rattle.runs.specs.Calls.{span, load, move, clear, read, traffic}
+use Rattle.runs.specs.Step.{changing, reading, ciphering}
+use Rattle.runs.specs.Card.{ourCard, step}
 
 module _ (t : List Slot) (whole : length t ≡ 32) where
   pub lent-load-steps : (number : ℕ) (a : Asked) (key : List ℕ) → changing (loadedIn t number a key) ≡ step ourCard t (load number a key)
@@ -30,6 +30,6 @@ module _ (t : List Slot) (whole : length t ≡ 32) where
 
   pub lent-traffic-steps : (direction number : ℕ) (iv buf : List ℕ) (begin n skip : ℕ)
       → ciphering t (trafficRefusalIn t direction number iv buf begin n skip) (trafficBlocksIn t direction number iv buf begin n skip) (traffickedIn t direction number iv buf begin n skip)
-      ≡ step ourCard t (traffic direction number iv buf begin n skip)
+      ≡ step ourCard t (traffic (record { direction = direction; number = number; iv = iv }) buf (span begin n skip))
   unfolding step
   lent-traffic-steps direction number iv buf begin n skip = rw (eq-eqb (length t) 32 whole)

@@ -8,6 +8,7 @@ use Rattle.fields.specs.declared.Asked.{Asked}
 use Rattle.slots.specs.declared.Slot.{Slot}
 use Rattle.slots.specs.declared.Changed.{Changed}
 use Rattle.slots.specs.declared.Shown.{Shown}
+use Rattle.slots.specs.Slots.{emptyTable}
 use Rattle.slots.proofs.empty_table.Reads as slots-empty-table
 use Rattle.slots.proofs.load.Reads as slots-load
 use Rattle.slots.proofs.move_slot.Reads as slots-move-slot
@@ -15,12 +16,11 @@ use Rattle.slots.proofs.clear.Reads as slots-clear
 use Rattle.slots.proofs.read.Reads as slots-read
 use Rattle.card.specs.declared.traffic.Report.{Report}
 use Rattle.card.proofs.traffic.traffic.Reads as card-traffic
-use Rattle.runs.specs.Calls.{load, move, clear, read, traffic}
-use Rattle.runs.specs.Card.{ourCard}
-use Rattle.runs.specs.Step.{changing, reading, ciphering, step}
-use Rattle.runs.specs.Run.{start}
+use Rattle.runs.specs.Calls.{span, load, move, clear, read, traffic}
+use Rattle.runs.specs.Step.{changing, reading, ciphering}
+use Rattle.runs.specs.Card.{ourCard, step}
 
-pub empty-table-starts : (r : List Slot) (κs : _) (e : _) → slots-empty-table.Learnt κs tt r e → r ≡ start .table
+pub empty-table-starts : (r : List Slot) (κs : _) (e : _) → slots-empty-table.Learnt κs tt r e → r ≡ emptyTable
 empty-table-starts r κs e ensures = ensures
 
 module _ (table : List Slot) where
@@ -47,7 +47,7 @@ module _ (table : List Slot) where
   -- the buffer is the fifth parameter: `buf .now` at entry, `e .1 .1 .1 .1 .0 .now` at exit
   pub traffic-steps : (direction number : ℕ) (iv buf : RefT (List ℕ)) (begin n skip : ℕ) (r : Report) (κs : _) (e : _)
       → card-traffic.Learnt κs (table, (direction, (number, (iv, (buf, (begin, (n, (skip, tt)))))))) r e
-      → ciphering table (r .refusal) (r .blocks) (e .1 .1 .1 .1 .0 .now) ≡ step ourCard table (traffic direction number (iv .now) (buf .now) begin n skip)
+      → ciphering table (r .refusal) (r .blocks) (e .1 .1 .1 .1 .0 .now) ≡ step ourCard table (traffic (record { direction = direction; number = number; iv = iv .now }) (buf .now) (span begin n skip))
   unfolding step
   traffic-steps direction number iv buf begin n skip r κs e ensures =
       λ i. ciphering table (ensures .0 i) (ensures .1 i) (ensures .2 i)

@@ -1,4 +1,4 @@
--- What a card's calls answer, and our card: the definitions that the contracts of its public calls cite. Assumes nothing: these are definitions.
+-- A card, by what its calls do, and our card: the definitions that the contracts of its public calls cite. Assumes nothing: these are definitions.
 use mathlib.Core.List.{List}
 use Prim.Native.Nat.{ℕ}
 use Rattle.fields.specs.declared.Asked.{Asked}
@@ -7,28 +7,44 @@ use Rattle.slots.specs.declared.Changed.{Changed}
 use Rattle.slots.specs.declared.Shown.{Shown}
 use Rattle.slots.specs.Calls.{loaded, moved, cleared, shown}
 use Rattle.card.specs.Traffic.{trafficRefusal, trafficBlocks, trafficked}
+use Rattle.runs.specs.Calls.{Use, Work, span, Call, load, move, clear, read, traffic}
+use Rattle.runs.specs.Step.{Step, changing, reading, ciphering}
 
--- the table, direction, slot number, initial value, buffer, start bit, length and skip
+-- on a table, with the call's arguments: any call may change the table, and may show anything
+pub record Card : Type 0 where
+  pub load : List Slot → ℕ → Asked → List ℕ → Step
+  pub move : List Slot → ℕ → ℕ → ℕ → Step
+  pub clear : List Slot → ℕ → Step
+  pub read : List Slot → ℕ → Step
+  pub traffic : List Slot → Use → List ℕ → Work → Step
+
+unfoldable pub step : Card → List Slot → Call → Step
+step card table (load number a key) = card .load table number a key
+step card table (move from to asked) = card .move table from to asked
+step card table (clear number) = card .clear table number
+step card table (read number) = card .read table number
+step card table (traffic how buf w) = card .traffic table how buf w
+
+-- an answer to a traffic call: of the table, direction, slot number, initial value, buffer, start bit, length and skip
 abbrev pub OfTraffic : Type 0 → Type 0
 OfTraffic A = List Slot → ℕ → ℕ → List ℕ → List ℕ → ℕ → ℕ → ℕ → A
 
--- the answers to load, move, clear and read; and the refusal, the block count and the buffer afterwards of traffic
-pub record Card : Type 0 where
-  pub load : List Slot → ℕ → Asked → List ℕ → Changed
-  pub move : List Slot → ℕ → ℕ → ℕ → Changed
-  pub clear : List Slot → ℕ → Changed
-  pub read : List Slot → ℕ → Shown
-  pub refusal : OfTraffic ℕ
-  pub blocks : OfTraffic ℕ
-  pub buffer : OfTraffic (List ℕ)
+abbrev pub trafficBy : OfTraffic ℕ → OfTraffic ℕ → OfTraffic (List ℕ) → List Slot → Use → List ℕ → Work → Step
+trafficBy refusal blocks buffer table how buf (span start n skip) =
+    ciphering table
+    (refusal table (how .direction) (how .number) (how .iv) buf start n skip)
+    (blocks table (how .direction) (how .number) (how .iv) buf start n skip)
+    (buffer table (how .direction) (how .number) (how .iv) buf start n skip)
+
+-- a card by its answers to load, move, clear and read, and the refusal, the block count and the buffer of traffic; a read and a traffic call leave the table as it is
+abbrev pub cardBy : (List Slot → ℕ → Asked → List ℕ → Changed) → (List Slot → ℕ → ℕ → ℕ → Changed) → (List Slot → ℕ → Changed) → (List Slot → ℕ → Shown) → OfTraffic ℕ → OfTraffic ℕ → OfTraffic (List ℕ) → Card
+cardBy loads moves clears reads refusal blocks buffer = record {
+  load = λ table number a key. changing (loads table number a key);
+  move = λ table from to asked. changing (moves table from to asked);
+  clear = λ table number. changing (clears table number);
+  read = λ table number. reading table (reads table number);
+  traffic = trafficBy refusal blocks buffer;
+}
 
 abbrev pub ourCard : Card
-ourCard = record {
-  load = loaded;
-  move = moved;
-  clear = cleared;
-  read = shown;
-  refusal = trafficRefusal;
-  blocks = trafficBlocks;
-  buffer = trafficked;
-}
+ourCard = cardBy loaded moved cleared shown trafficRefusal trafficBlocks trafficked

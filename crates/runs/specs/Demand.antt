@@ -4,44 +4,39 @@ use mathlib.Core.List.{List}
 use mathlib.Core.Logic.{_⊎_}
 use mathlib.Core.Option.{Option, none, some}
 use mathlib.Core.Path.{_≡_}
-use Prim.Native.Nat.{ℕ, _+_, _<_, _≤_}
+use Prim.Native.Nat.{ℕ, _*_, _<_}
 use lib.ListN.{length}
 use Rattle.laws.specs.Bits.{bitAt}
 use Rattle.refusals.specs.Numbers.{done}
-use Rattle.fields.specs.declared.Asked.{Asked}
-use Rattle.fields.specs.Fields.{isSlotNumber}
+use Rattle.fields.specs.declared.Fields.{Fields}
+use Rattle.fields.specs.Fields.{isSlotNumber, storedOf}
 use Rattle.slots.specs.declared.Slot.{Slot}
-use Rattle.slots.specs.Slots.{isEmpty, slotAt}
+use Rattle.slots.specs.Slots.{isEmpty, nil, emptyTable, slotAt}
 use Rattle.slots.specs.Rights.{within}
-use Rattle.runs.specs.Calls.{Call, load, move, clear, read, traffic, Twins}
-use Rattle.runs.specs.Card.{Card}
+use Rattle.runs.specs.Calls.{Use, Work, spanOf, Call, load, move, clear, read, traffic, Origin, loadAt, present, Twins, Starts}
 use Rattle.runs.specs.Step.{Seen}
+use Rattle.runs.specs.Card.{Card}
 use Rattle.runs.specs.Trace.{Trace}
 use Rattle.runs.specs.Run.{callAt, seenAt, tableAt, traceAt}
 
--- a traffic call that was accepted, and whose slot's key traces back by moves to the load at place `origin`
+-- a traffic call that was accepted, and whose slot's key traces back by moves to this origin
 pub record Ciphers (c : Call) (trace : Trace) (x : Seen) : Type 0 where
-  pub direction : ℕ
-  pub number : ℕ
-  pub iv : List ℕ
+  pub how : Use
   pub buf : List ℕ
-  pub start : ℕ
-  pub n : ℕ
-  pub skip : ℕ
-  pub origin : ℕ
-  pub call : c ≡ traffic direction number iv buf start n skip
+  pub work : Work
+  pub origin : Origin
+  pub call : c ≡ traffic how buf work
   pub accepted : x .refusal ≡ done
-  pub traced : trace number ≡ some origin
+  pub traced : trace (how .number) ≡ some origin
 
--- bit j of its buffer, inside its span, where that load is a chosen one
-pub record MayDiffer (chosen : ℕ → Bool) (c : Call) (trace : Trace) (x : Seen) (j : ℕ) : Type 0 where
+-- bit j of its buffer, inside its span, where the origin is a chosen one
+pub record MayDiffer (chosen : Origin → Bool) (c : Call) (trace : Trace) (x : Seen) (j : ℕ) : Type 0 where
   pub ciphers : Ciphers c trace x
-  pub low : ciphers .start ≤ j
-  pub high : j < ciphers .start + ciphers .n
+  pub inside : spanOf (ciphers .work) (ciphers .buf) j ≡ true
   pub picked : chosen (ciphers .origin) ≡ true
 
 -- what was seen of a call in two runs
-pub record Agree (chosen : ℕ → Bool) (c : Call) (trace : Trace) (x y : Seen) : Type 0 where
+pub record Agree (chosen : Origin → Bool) (c : Call) (trace : Trace) (x y : Seen) : Type 0 where
   pub refusal : x .refusal ≡ y .refusal
   pub blocks : x .blocks ≡ y .blocks
   pub number : x .number ≡ y .number
@@ -49,46 +44,53 @@ pub record Agree (chosen : ℕ → Bool) (c : Call) (trace : Trace) (x y : Seen)
   pub size : length (x .buffer) ≡ length (y .buffer)
   pub bits : (j : ℕ) → (bitAt (x .buffer) j ≡ bitAt (y .buffer) j) ⊎ MayDiffer chosen c trace x j
 
--- a load, of these fields, for sending only
-pub record SendOnly (c : Call) (a : Asked) : Type 0 where
-  pub number : ℕ
-  pub key : List ℕ
-  pub call : c ≡ load number a key
-  pub usage : a .usage ≡ 1
+-- what a load gives; another call gives nothing, and is no key's origin
+abbrev pub loadedBy : Call → Slot
+loadedBy (load number a key) = record { fields = storedOf a; key = key }
+loadedBy (move from to asked) = nil
+loadedBy (clear number) = nil
+loadedBy (read number) = nil
+loadedBy (traffic how buf w) = nil
 
--- a send, with an initial value on the send side of a key of these fields
-pub record IsSend (direction : ℕ) (iv : List ℕ) (a : Asked) : Type 0 where
-  pub send : direction ≡ 1
-  pub side : bitAt iv (a .place) ≡ a .side
+-- what an origin gave: a load what it loads, a slot at the start what it held then
+abbrev pub given : List Slot → List Call → Origin → Slot
+given table cs (loadAt place) = loadedBy (callAt cs place)
+given table cs (present number) = slotAt table number
 
--- a slot holds what was loaded: a use within the load's, and all else as it was given
-pub record Kept (a : Asked) (loaded : List ℕ) (s : Slot) : Type 0 where
-  pub usage : within (s .fields .usage) (a .usage) ≡ true
-  pub version : s .fields .version ≡ a .version
-  pub algorithm : s .fields .algorithm ≡ a .algorithm
-  pub side : s .fields .side ≡ a .side
-  pub place : s .fields .place ≡ a .place
-  pub key : s .key ≡ loaded
+-- a send, with an initial value that has the place of these fields, and is on their send side there
+pub record IsSend (how : Use) (f : Fields) : Type 0 where
+  pub send : how .direction ≡ 1
+  pub there : f .place < 8 * length (how .iv)
+  pub side : bitAt (how .iv) (f .place) ≡ f .side
 
--- a slot holds what this call loaded
-abbrev pub HoldsLoad : Call → Slot → Type 0
-HoldsLoad (load number a key) s = Kept a key s
-HoldsLoad (move from to asked) s = ⊥
-HoldsLoad (clear number) s = ⊥
-HoldsLoad (read number) s = ⊥
-HoldsLoad (traffic direction number iv buf start n skip) s = ⊥
+-- a slot, with another use
+abbrev pub withUse : Slot → ℕ → Slot
+withUse s usage = record {
+  fields = record { version = s .fields .version; algorithm = s .fields .algorithm; usage = usage; side = s .fields .side; place = s .fields .place };
+  key = s .key;
+}
 
--- a slot holds what its origin says: what the load at that place gave, or nothing
-abbrev pub Holds : List Call → Option ℕ → Slot → Type 0
-Holds cs none s = isEmpty s ≡ true
-Holds cs (some origin) s = HoldsLoad (callAt cs origin) s
+-- a slot holds what was given: a use within the given one, and all else as it was given
+pub record Kept (given s : Slot) : Type 0 where
+  pub usage : within (s .fields .usage) (given .fields .usage) ≡ true
+  pub rest : s ≡ withUse given (s .fields .usage)
 
--- two runs of a card agree, its send-only keys only send, and its traces are true
-pub record Meets (card : Card) (chosen : ℕ → Bool) (cs ds : List Call) : Type 0 where
-  pub agree : (i : ℕ) → Agree chosen (callAt cs i) (traceAt card cs i) (seenAt card cs i) (seenAt card ds i)
-  pub sends : (i : ℕ) (c : Ciphers (callAt cs i) (traceAt card cs i) (seenAt card cs i)) (a : Asked) → SendOnly (callAt cs (c .origin)) a → IsSend (c .direction) (c .iv) a
-  pub traces : (i number : ℕ) → isSlotNumber number ≡ true → Holds cs (traceAt card cs i number) (slotAt (tableAt card cs i) number)
+-- a slot holds what its origin gave; with no origin, it is empty
+abbrev pub Holds : List Slot → List Call → Option Origin → Slot → Type 0
+Holds table cs none s = isEmpty s ≡ true
+Holds table cs (some origin) s = Kept (given table cs origin) s
 
--- for every list, every choice and every pair of keys
+-- two runs of a card, from two tables, agree; its send-only keys only send; and its traces are true
+pub record Meets (card : Card) (chosen : Origin → Bool) (a b : List Slot) (cs ds : List Call) : Type 0 where
+  pub agree : (i : ℕ) → Agree chosen (callAt cs i) (traceAt card a cs i) (seenAt card a cs i) (seenAt card b ds i)
+  pub sends : (i : ℕ) (c : Ciphers (callAt cs i) (traceAt card a cs i) (seenAt card a cs i)) → given a cs (c .origin) .fields .usage ≡ 1 → IsSend (c .how) (given a cs (c .origin) .fields)
+  pub traces : (i number : ℕ) → isSlotNumber number ≡ true → Holds a cs (traceAt card a cs i number) (slotAt (tableAt card a cs i) number)
+
+-- from the empty table, for every list, every choice and every pair of keys
 abbrev pub Demand3 : Card → Type 0
-Demand3 card = (chosen : ℕ → Bool) (cs ds : List Call) → Twins chosen 0 cs ds → Meets card chosen cs ds
+Demand3 card = (chosen : Origin → Bool) (cs ds : List Call) → Twins chosen 0 cs ds → Meets card chosen emptyTable emptyTable cs ds
+
+-- the same from any table without a bad slot, where a key that is there already counts as a load of its present use
+abbrev pub Demand3From : Card → Type 0
+Demand3From card =
+    (chosen : Origin → Bool) (a b : List Slot) → Starts chosen a b → (cs ds : List Call) → Twins chosen 0 cs ds → Meets card chosen a b cs ds

@@ -1,6 +1,6 @@
 pub mod Calls
-pub mod Card
 pub mod Step
+pub mod Card
 pub mod Trace
 pub mod Run
 pub mod Demand

@@ -1,5 +1,4 @@
--- A run of calls from the empty table: what was seen, call by call, and the table and its trace before each call.
--- Assumes nothing: these are definitions.
+-- A run of calls from a table: what was seen, call by call, and the table and its trace before each call. Assumes nothing: these are definitions.
 use mathlib.Core.Bool.{Bool}
 use mathlib.Core.List.{List, [], _∷_}
 use Prim.Native.Nat.{ℕ, zero, suc}
@@ -8,11 +7,10 @@ use lib.ListN.{getD}
 use Rattle.laws.specs.Choice.{pick}
 use Rattle.refusals.specs.Numbers.{done}
 use Rattle.slots.specs.declared.Slot.{Slot}
-use Rattle.slots.specs.Slots.{noFields, emptyTable}
 use Rattle.runs.specs.Calls.{Call, read}
-use Rattle.runs.specs.Card.{Card}
-use Rattle.runs.specs.Step.{Seen, step}
-use Rattle.runs.specs.Trace.{Trace, untraced, traced}
+use Rattle.runs.specs.Step.{Seen, told}
+use Rattle.runs.specs.Card.{Card, step}
+use Rattle.runs.specs.Trace.{Trace, atStart, traced}
 
 -- between two calls: how many were made, the table, and its trace
 pub record State : Type 0 where
@@ -20,16 +18,16 @@ pub record State : Type 0 where
   pub table : List Slot
   pub trace : Trace
 
-abbrev pub start : State
-start = record { place = 0; table = emptyTable; trace = untraced }
+abbrev pub startOf : List Slot → State
+startOf table = record { place = 0; table = table; trace = atStart table }
 
 -- call i of a list; past the end only ever a default
 abbrev pub callAt : List Call → ℕ → Call
 callAt cs i = getD cs i (read 0)
 
--- what is seen past the end: only ever a default
-abbrev pub nothing : Seen
-nothing = record { refusal = 0; blocks = 0; number = 0; fields = noFields; buffer = [] }
+-- entry i of what was seen; past the end only ever a default
+abbrev pub seenIn : List Seen → ℕ → Seen
+seenIn xs i = getD xs i (told 0)
 
 module _ (card : Card) where
   abbrev pub accepted : State → Call → Bool
@@ -54,13 +52,13 @@ module _ (card : Card) where
   stateAt s (c ∷ cs) zero = s
   stateAt s (c ∷ cs) (suc i) = stateAt (next s c) cs i
 
-  -- from the empty table: what was seen of call i, and the table and its trace before it
+  -- from a table: what was seen of call i, and the table and its trace before it
 
-  abbrev pub seenAt : List Call → ℕ → Seen
-  seenAt cs i = getD (run start cs) i nothing
+  abbrev pub seenAt : List Slot → List Call → ℕ → Seen
+  seenAt table cs i = seenIn (run (startOf table) cs) i
 
-  abbrev pub tableAt : List Call → ℕ → List Slot
-  tableAt cs i = stateAt start cs i .table
+  abbrev pub tableAt : List Slot → List Call → ℕ → List Slot
+  tableAt table cs i = stateAt (startOf table) cs i .table
 
-  abbrev pub traceAt : List Call → ℕ → Trace
-  traceAt cs i = stateAt start cs i .trace
+  abbrev pub traceAt : List Slot → List Call → ℕ → Trace
+  traceAt table cs i = stateAt (startOf table) cs i .trace
