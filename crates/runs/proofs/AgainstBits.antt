@@ -1,4 +1,4 @@
--- Against cards that change bits of a buffer that should stay: `high`, `low`, `accepted`, `traced` and `picked`. Assumes nothing.
+-- Against cards that change bits of a buffer that should stay: `bits`, `accepted`, `traced` and `picked`, `high`, `low`. Assumes nothing.
 use mathlib.Core.Bool.{Bool, true, false, true≢false}
 use mathlib.Core.List.{List, [], _∷_}
 use mathlib.Core.Logic.{⊎-elim}
@@ -20,43 +20,12 @@ use Rattle.card.specs.Traffic.{useRefusalOf, trafficRefusalOf, trafficked}
 use Rattle.card.proofs.Laws.{traffic-accepted}
 use Rattle.runs.specs.Calls.{Use, Work, span, spanOf, Call, load, traffic, Origin, loadAt, present, end, more, same, other-key}
 use Rattle.runs.specs.Step.{Seen}
-use Rattle.runs.specs.Card.{Card, step}
+use Rattle.runs.specs.Card.{Card, OfTraffic, step}
 use Rattle.runs.specs.Trace.{Trace, traced}
 use Rattle.runs.specs.Run.{next, run, stateAt}
 use Rattle.runs.specs.Demand.{MayDiffer, Demand3}
 use Rattle.runs.proofs.Against.{writing, asked, slotOf, keyOf, zeros, used, byte}
 use Rattle.runs.proofs.AgainstRuns.{holding, loads, would-agree, bit-1-differs, sent-differs}
-
--- a bit that may differ lies in the span
-inside-of : {chosen : Origin → Bool} {how : Use} {buf : List ℕ} {w : Work} {trace : Trace} {x : Seen} {j : ℕ} → MayDiffer chosen (traffic how buf w) trace x j → spanOf w buf j ≡ true
-inside-of {buf = buf} {w = w} m =
-    let work : w ≡ m .ciphers .work = cc (m .ciphers .call) in
-    let bytes : buf ≡ m .ciphers .buf = cc (m .ciphers .call) in
-    rw (work, bytes) (m .inside)
-
--- the span goes on to the end of its last byte: bit 1, beside a span of one bit, is the keystream's
-abbrev pub wholeLastBytes : Card
-wholeLastBytes = writing (λ table direction number iv buf start n skip. trafficked table direction number iv buf start ((start + n + 7) / 8 * 8 - start) skip)
-
-pub whole-last-bytes : Demand3 wholeLastBytes → ⊥
-unfolding step spanRefusal bitAt bitOf
-whole-last-bytes demand =
-    ⊎-elim
-    (sent-differs 0 8 0 1 refl (lit< tt) (lit< tt) refl refl)
-    (λ m. true≢false (sym (inside-of m)))
-    (would-agree wholeLastBytes loads demand (traffic (used 1 1 zeros) byte (span 0 1 0)) (keyOf 0) (keyOf 1) .bits 1)
-
--- the span begins a bit early: bit 0, before a span of bit 1, is the keystream's
-abbrev pub beginsEarly : Card
-beginsEarly = writing (λ table direction number iv buf start n skip. trafficked table direction number iv buf (start - 1) (n + 1) skip)
-
-pub begins-early : Demand3 beginsEarly → ⊥
-unfolding step spanRefusal bitAt bitOf
-begins-early demand =
-    ⊎-elim
-    (sent-differs 0 2 1 0 refl (lit< tt) (lit< tt) refl refl)
-    (λ m. true≢false (sym (inside-of m)))
-    (would-agree beginsEarly loads demand (traffic (used 1 1 zeros) byte (span 1 1 1)) (keyOf 0) (keyOf 1) .bits 0)
 
 -- a refused call is ciphered all the same, as a send: a receive with a key for sending only
 abbrev pub xorsRefused : Card
@@ -103,3 +72,45 @@ next-key demand =
     let no : false ≡ true = rw (← first) at (m .picked) in
     true≢false (sym no))
     (demand second (twoLoads (keyOf 0)) (twoLoads (keyOf 1)) (more (same _) (more (other-key 2 (asked 1) _ _ refl) (more (same _) end))) .agree 2 .bits 1)
+
+-- a bit beside the span would be the same under two keys
+
+inside-of : {chosen : Origin → Bool} {how : Use} {buf : List ℕ} {w : Work} {trace : Trace} {x : Seen} {j : ℕ} → MayDiffer chosen (traffic how buf w) trace x j → spanOf w buf j ≡ true
+inside-of {buf = buf} {w = w} m =
+    let work : w ≡ m .ciphers .work = cc (m .ciphers .call) in
+    let bytes : buf ≡ m .ciphers .buf = cc (m .ciphers .call) in
+    rw (work, bytes) (m .inside)
+
+module _ (buffer : OfTraffic (List ℕ)) (start n skip j : ℕ) (out : spanOf (span start n skip) byte j ≡ false) where
+  abbrev bit : List ℕ → ℕ
+  bit key = bitAt (buffer (holding key) 1 1 zeros byte start n skip) j
+
+  would-stay : Demand3 (writing buffer) → bit (keyOf 0) ≡ bit (keyOf 1)
+  unfolding step
+  would-stay demand =
+      ⊎-elim (λ e. e) (λ m. absurd (true≢false (sym (inside-of m) ∙ out)))
+      (would-agree (writing buffer) loads demand (traffic (used 1 1 zeros) byte (span start n skip)) (keyOf 0) (keyOf 1) .bits j)
+
+-- the span goes on to the end of its last byte: bit 1, beside a span of one bit, is the keystream's
+
+abbrev wholeLast : OfTraffic (List ℕ)
+wholeLast table direction number iv buf start n skip = trafficked table direction number iv buf start ((start + n + 7) / 8 * 8 - start) skip
+
+abbrev pub wholeLastBytes : Card
+wholeLastBytes = writing wholeLast
+
+pub whole-last-bytes : Demand3 wholeLastBytes → ⊥
+unfolding spanRefusal bitAt bitOf
+whole-last-bytes demand = sent-differs 0 8 0 1 refl (lit< tt) (lit< tt) refl refl (would-stay wholeLast 0 1 0 1 refl demand)
+
+-- the span begins a bit early: bit 0, before a span of bit 1, is the keystream's
+
+abbrev early : OfTraffic (List ℕ)
+early table direction number iv buf start n skip = trafficked table direction number iv buf (start - 1) (n + 1) skip
+
+abbrev pub beginsEarly : Card
+beginsEarly = writing early
+
+pub begins-early : Demand3 beginsEarly → ⊥
+unfolding spanRefusal bitAt bitOf
+begins-early demand = sent-differs 0 2 1 0 refl (lit< tt) (lit< tt) refl refl (would-stay early 1 1 1 0 refl demand)

@@ -1,5 +1,5 @@
--- The facts of Local, of our card, a lemma for each. They stand in such an order that the check of a card with one wrong answer stops first at
--- the fact that is false of that card (docs/DEMAND-3.md, "What it shuts out"). Assumes nothing.
+-- The facts of Local, of our card, a lemma for each. They stand in such an order that each of the seven edits of our card stops first at the
+-- fact that is false of the edited card (docs/DEMAND-3.md, "What it shuts out"); of other edits that is not said. Assumes nothing.
 use mathlib.Core.Bool.{Bool, true, false, _&&_, true≢false}
 use mathlib.Core.List.{List}
 use mathlib.Core.Path.{_≡_, refl, sym, ap, _∙_}
@@ -28,7 +28,7 @@ use Rattle.span.specs.Span.{xored}
 use Rattle.span.proofs.Within.{Beside}
 use Rattle.span.proofs.Laws.{length-xored, xored-outside}
 use Rattle.span.proofs.Stream.{stream-lt}
-use Rattle.card.specs.Traffic.{onSide, slotStream, useRefusalOf, trafficRefusalOf, trafficRefusal, trafficBlocksOf, traffickedOf}
+use Rattle.card.specs.Traffic.{onSide, slotStream, useRefusalOf, trafficRefusalOf, trafficRefusal, trafficBlocksOf, traffickedOf, trafficked}
 use Rattle.card.proofs.Laws.{traffic-refused}
 use Rattle.card.proofs.Passed.{UsePassed, traffic-passed}
 use Rattle.runs.specs.Calls.{Use, Work, span, spanOf}
@@ -108,14 +108,15 @@ read-blind a b number alike = ap (λ (x : Shown). reading a x .seen) (read-alike
 
 -- traffic
 
+sends-on-its-side : Taken ourCard (λ slot how. how .direction ≡ 1 → bitAt (how .iv) (slot .fields .place) ≡ slot .fields .side)
+sends-on-its-side table how buf (span start n skip) e send =
+    let fields = slotAt table (how .number) .fields in
+    let passed = traffic-passed table (how .direction) (how .number) (how .iv) buf start n skip e in
+    let side : onSide 1 fields (how .iv) ≡ true = rw send at (passed .allowed .on-side) in
+    eqb-true (bitAt (how .iv) (fields .place)) (fields .side) side
+
 allowed : (table : List Slot) (how : Use) (buf : List ℕ) (w : Work) → ourCard .traffic table how buf w .seen .refusal ≡ done → UsePassed table (how .direction) (how .number) (how .iv)
 allowed table how buf (span start n skip) e = traffic-passed table (how .direction) (how .number) (how .iv) buf start n skip e .allowed
-
-sends-on-its-side : Taken ourCard (λ slot how. how .direction ≡ 1 → bitAt (how .iv) (slot .fields .place) ≡ slot .fields .side)
-sends-on-its-side table how buf w e send =
-    let fields = slotAt table (how .number) .fields in
-    let side : onSide 1 fields (how .iv) ≡ true = rw send at (allowed table how buf w e .on-side) in
-    eqb-true (bitAt (how .iv) (fields .place)) (fields .side) side
 
 has-its-place : Taken ourCard (λ slot how. slot .fields .place < 8 * length (how .iv))
 unfolding isFilled
@@ -151,8 +152,8 @@ traffic-leaves : (table : List Slot) (how : Use) (buf : List ℕ) (w : Work) →
 traffic-leaves table how buf (span start n skip) = refl
 
 -- what a traffic call makes of its buffer: itself, or its bits xored
-either-buffer : (P : List ℕ → Type 0) (table : List Slot) (how : Use) (buf : List ℕ) (start n skip : ℕ)
-    → P (xored buf (slotStream (slotAt table (how .number)) (how .iv)) start skip n) → P buf → P (ourCard .traffic table how buf (span start n skip) .seen .buffer)
+either-buffer : (P : List ℕ → Type 0) (table : List Slot) (how : Use) (buf : List ℕ) (start n skip : ℕ) → P (xored buf (slotStream (slotAt table (how .number)) (how .iv)) start skip n) → P buf
+    → P (trafficked table (how .direction) (how .number) (how .iv) buf start n skip)
 unfolding traffickedOf
 either-buffer P table how buf start n skip ciphered same =
     pick-cases P (eqb (trafficRefusal table (how .direction) (how .number) (how .iv) buf start n skip) done) (λ e. ciphered) (λ e. same)

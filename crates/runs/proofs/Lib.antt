@@ -12,7 +12,7 @@ pub mod AgainstBits
 pub mod AgainstShown
 pub mod AgainstSends
 pub mod AgainstTraces
-pub mod AgainstPresent
+pub mod AgainstStart
 pub mod Example
 pub mod Steps
 pub mod Lent
