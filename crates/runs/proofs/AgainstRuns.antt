@@ -1,5 +1,5 @@
 -- The runs by which cards are refuted: a key is loaded into slot 1 of the empty table, and then a call is made. Assumes nothing.
-use mathlib.Core.List.{List, [], _∷_}
+use mathlib.Core.List.{List}
 use mathlib.Core.Option.{some}
 use mathlib.Core.Path.{_≡_, refl, sym, ap, subst, _∙_}
 use Prim.Native.Nat.{ℕ, _+_, _<_}
@@ -16,7 +16,7 @@ use Rattle.span.proofs.Stream.{stream-lt}
 use Rattle.keystream.specs.Stream.{keystream}
 use Rattle.keystream.proofs.Known.{known}
 use Rattle.card.specs.Span.{spanRefusal}
-use Rattle.card.specs.Traffic.{slotStream, useRefusalOf, useRefusal, trafficRefusalOf, trafficRefusal, trafficked}
+use Rattle.card.specs.Traffic.{useRefusalOf, useRefusal, trafficRefusalOf, trafficRefusal, trafficked}
 use Rattle.card.proofs.Laws.{traffic-accepted}
 use Rattle.runs.specs.Calls.{Call, load, loadAt, end, more, same, other-key}
 use Rattle.runs.specs.Step.{told, changing}

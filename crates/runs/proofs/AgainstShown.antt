@@ -1,5 +1,5 @@
 -- Against cards that show something of a key beside the bits of a buffer: `number`, `fields`, `blocks`, `size`. Assumes nothing.
-use mathlib.Core.List.{List, _++_}
+use mathlib.Core.List.{_++_}
 use mathlib.Core.Path.{_≡_, refl, sym, ap, _∙_}
 use Prim.Native.Nat.{ℕ, _+_}
 use native.Mathlib.Omega.{arith}

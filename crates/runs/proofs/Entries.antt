@@ -1,7 +1,6 @@
 -- The entries that C calls, tied to the run by their own contracts. Assumes nothing.
-use mathlib.Core.List.{List, [], _∷_, map}
+use mathlib.Core.List.{List}
 use mathlib.Core.Path.{_≡_, _∙_}
-use Prim.Native.Nat.{ℕ}
 use lib.ListN.{length}
 use base.Logic.{SProp, ent}
 use contract.Lifetimes.{Lfts}

@@ -1,12 +1,12 @@
 -- The facts of Local, of our card, a lemma for each. They stand in such an order that each of the seven edits of our card stops first at the
 -- fact that is false of the edited card (docs/DEMAND-3.md, "What it shuts out"); of other edits that is not said. Assumes nothing.
-use mathlib.Core.Bool.{Bool, true, false, _&&_, true≢false}
+use mathlib.Core.Bool.{true, false, true≢false}
 use mathlib.Core.List.{List}
 use mathlib.Core.Path.{_≡_, refl, sym, ap, _∙_}
 use Prim.Native.Nat.{ℕ, _*_, _-_, _<_}
 use native.Mathlib.Omega.{arith}
 use borrow.Author.Tests.{eqb-true, ne-eqb, le-leb, ltb-false}
-use lib.Dec.{eqb, leb, ltb}
+use lib.Dec.{eqb}
 use lib.ListN.{length}
 use Rattle.laws.specs.Bits.{bitAt}
 use Rattle.laws.proofs.Cases.{pick-cases}
@@ -32,7 +32,7 @@ use Rattle.card.specs.Traffic.{onSide, slotStream, useRefusalOf, trafficRefusal
 use Rattle.card.proofs.Laws.{traffic-refused}
 use Rattle.card.proofs.Passed.{UsePassed, traffic-passed}
 use Rattle.runs.specs.Calls.{Use, Work, span, spanOf}
-use Rattle.runs.specs.Step.{Seen, told, changing, reading}
+use Rattle.runs.specs.Step.{told, changing, reading}
 use Rattle.runs.specs.Card.{ourCard}
 use Rattle.runs.specs.Demand.{withUse}
 use Rattle.runs.proofs.Local.{loadedSlot, AlikeSteps, Leaves, Arriving, Taken, Blind, Local}

@@ -7,7 +7,6 @@ use lib.ListN.{length}
 use Rattle.laws.specs.Bits.{bitAt}
 use Rattle.refusals.specs.Numbers.{done}
 use Rattle.fields.specs.declared.Asked.{Asked}
-use Rattle.fields.specs.declared.Fields.{Fields}
 use Rattle.fields.specs.Fields.{storedOf}
 use Rattle.slots.specs.declared.Slot.{Slot}
 use Rattle.slots.specs.Slots.{empty, slotAt, withSlot}

@@ -14,7 +14,7 @@ use Rattle.laws.specs.Choice.{pick}
 use Rattle.laws.proofs.Cases.{and-left, and-right}
 use Rattle.refusals.specs.Numbers.{done}
 use Rattle.fields.specs.declared.Asked.{Asked}
-use Rattle.fields.specs.Fields.{isSlotNumber, isAlgorithm, isUse, allInRange}
+use Rattle.fields.specs.Fields.{isSlotNumber, isAlgorithm, isUse}
 use Rattle.fields.proofs.Ranges.{between-low}
 use Rattle.slots.specs.declared.Slot.{Slot}
 use Rattle.slots.specs.Slots.{allZero, isEmpty, isFilled, empty, slotAt, withSlot}

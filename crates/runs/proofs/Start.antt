@@ -1,6 +1,6 @@
 -- Two tables to start from show the same, and hold slot by slot the same, or two keys of a chosen slot. Assumes nothing.
 use mathlib.Core.Bool.{Bool, true, false, true≢false}
-use mathlib.Core.List.{List, [], _∷_, map}
+use mathlib.Core.List.{List, [], _∷_}
 use mathlib.Core.Path.{_≡_, refl, sym, ap, _∙_}
 use Prim.Native.Nat.{ℕ, zero, suc, _+_}
 use native.Mathlib.Nat.{add-zero, add-suc, suc-add}
@@ -10,7 +10,7 @@ use Rattle.slots.specs.declared.Slot.{Slot}
 use Rattle.slots.specs.Slots.{isEmpty, isFilled, isBad, nil, emptyTable}
 use Rattle.slots.proofs.Tables.{filled-not-empty}
 use Rattle.slots.proofs.Left.{empty-table-good}
-use Rattle.slots.proofs.Alike.{Seen, seen, Alike}
+use Rattle.slots.proofs.Alike.{seen, Alike}
 use Rattle.runs.specs.Calls.{Origin, TwinSlots, same-slot, other-present, TwinTables, no-slot, slot, Starts}
 
 -- a slot that is neither filled nor bad is empty
