@@ -17,7 +17,7 @@ use Rattle.fields.proofs.Ranges.{place-high}
 use Rattle.slots.specs.declared.Slot.{Slot}
 use Rattle.slots.specs.declared.Changed.{Changed}
 use Rattle.slots.specs.declared.Shown.{Shown}
-use Rattle.slots.specs.Slots.{isFilled, empty, slotAt, withSlot}
+use Rattle.slots.specs.Slots.{hasBad, isFilled, empty, slotAt, withSlot}
 use Rattle.slots.specs.Rights.{within, includes}
 use Rattle.slots.specs.Calls.{moveRefusal, answered, moved}
 use Rattle.slots.proofs.Tables.{filled-else, good-at}
@@ -30,7 +30,7 @@ use Rattle.span.proofs.Laws.{length-xored, xored-outside}
 use Rattle.span.proofs.Stream.{stream-lt}
 use Rattle.card.specs.Traffic.{onSide, slotStream, useRefusalOf, trafficRefusalOf, trafficRefusal, trafficBlocksOf, traffickedOf, trafficked}
 use Rattle.card.proofs.Laws.{traffic-refused}
-use Rattle.card.proofs.Passed.{UsePassed, traffic-passed}
+use Rattle.card.proofs.Passed.{UsePassedOf, traffic-passed}
 use Rattle.runs.specs.Calls.{Use, Work, span, spanOf}
 use Rattle.runs.specs.Step.{told, changing, reading}
 use Rattle.runs.specs.Card.{ourCard}
@@ -115,7 +115,7 @@ sends-on-its-side table how buf (span start n skip) e send =
     let side : onSide 1 fields (how .iv) ≡ true = rw send at (passed .allowed .on-side) in
     eqb-true (bitAt (how .iv) (fields .place)) (fields .side) side
 
-allowed : (table : List Slot) (how : Use) (buf : List ℕ) (w : Work) → ourCard .traffic table how buf w .seen .refusal ≡ done → UsePassed table (how .direction) (how .number) (how .iv)
+allowed : (table : List Slot) (how : Use) (buf : List ℕ) (w : Work) → ourCard .traffic table how buf w .seen .refusal ≡ done → UsePassedOf (hasBad table) (slotAt table (how .number)) (how .direction) (how .number) (how .iv)
 allowed table how buf (span start n skip) e = traffic-passed table (how .direction) (how .number) (how .iv) buf start n skip e .allowed
 
 has-its-place : Taken ourCard (λ slot how. slot .fields .place < 8 * length (how .iv))
