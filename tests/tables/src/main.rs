@@ -5,6 +5,7 @@
 
 mod check;
 mod report;
+mod split;
 
 use std::env;
 use std::process::ExitCode;

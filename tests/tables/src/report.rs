@@ -8,6 +8,8 @@ use second::printed::{
     EXAMPLE_INPUT, MIXING_TABLES, ROW_SIZE, TABLE_SIZE,
 };
 
+use crate::split::{broken_groups, exchanged, exchanges_that_keep_it, Broken};
+
 const OPENING: &str = "\
 The six printed tables of ETSI TS 104 053-2 V1.1.1, as scanned.
 
@@ -87,6 +89,7 @@ fn combining_section(printed: &Printed) -> String {
             .count()
     ));
     lines.extend(structure_lines(&in_use));
+    lines.extend(split_lines(printed, &in_use));
     lines.push(table_in_use_heading(printed));
     lines.extend((0..ROW_SIZE).map(|row| row_line(&in_use, row)));
     text(&lines)
@@ -200,6 +203,47 @@ fn structure_lines(table: &Table) -> Vec<String> {
         format!("  0x?{column:x}: {high:2}, {low:2}; {times}")
     }));
     lines
+}
+
+/// Where the split of 8, 7 and 1 holds: that it does, what it says about the clause's example where
+/// that is another value than the table's, and what it leaves open.
+fn split_lines(printed: &Printed, table: &Table) -> Vec<String> {
+    if !broken_groups(table).is_empty() {
+        return Vec::new();
+    }
+    let mut lines = vec![
+        "in use, an entry is main, second or single as its high half comes 8, 7 or 1 times in its column:"
+            .to_string(),
+        "  8 main, 7 second and 1 single in every row, every column, every high half and every low half".to_string(),
+    ];
+    for elsewhere in inputs_of(table, printed.example) {
+        if elsewhere != EXAMPLE_INPUT {
+            let by_example = exchanged(table, EXAMPLE_INPUT.into(), elsewhere.into());
+            lines.push(format!(
+                "  with 0x{EXAMPLE_INPUT:02x} and 0x{elsewhere:02x} exchanged, as the clause's example would have it: {}",
+                broken_list(&broken_groups(&by_example))
+            ));
+        }
+    }
+    let (keep, all) = exchanges_that_keep_it(table);
+    lines.push(format!(
+        "  what it does not settle: {keep} of the {all} exchanges of two entries keep it too"
+    ));
+    lines
+}
+
+fn broken_list(broken: &[Broken]) -> String {
+    let words: Vec<String> = broken
+        .iter()
+        .map(|group| {
+            let [main, second, single] = group.parts;
+            format!(
+                "{} 0x{:x} has {main}, {second} and {single}",
+                group.grouping, group.group
+            )
+        })
+        .collect();
+    words.join(", ")
 }
 
 fn column_of(table: &Table, column: usize) -> Vec<u8> {
