@@ -4,9 +4,9 @@
  * Link with libcard.a, which `rt staticlib card` writes. It holds no state of its own, takes no memory and calls
  * nothing but memcpy and memset. The table of slots is the caller's, and a call sees only what it is lent.
  *
- * Every call answers: CARD_DONE, or the number of a refusal. The tests are made in the order in which a call lists
- * them here, and the first that fails gives the number. A refused call changes no bit of a buffer or of a slot; the
- * numbers that it reports are 0.
+ * Every call but card_slotlist, which answers a length, answers CARD_DONE or the number of a refusal. The tests are made
+ * in the order in which a call lists them here, and the first that fails gives the number. A refused call changes no bit
+ * of a buffer or of a slot; the numbers that it reports are 0.
  *
  * What the caller sees to, since no call can test it:
  *   - A pointer is not null, also where its length is 0, and so many bytes, slots or numbers stand there.
@@ -55,7 +55,8 @@ enum card_size {
     CARD_IV_BYTES = 10,
     CARD_BUFFER_BYTES = 8192,   /* the longest buffer */
     CARD_KEYSTREAM_BITS = 8288, /* the most keystream of a call, its skip included */
-    CARD_RECORD_BYTES = 111     /* the longest record */
+    CARD_RECORD_BYTES = 111,    /* the longest record */
+    CARD_LISTING_BYTES = 2048   /* room for every listing of a sheet */
 };
 
 enum card_algorithm { CARD_TEA5 = 5, CARD_TEA6 = 6, CARD_TEA7 = 7 };
@@ -140,6 +141,13 @@ uint8_t card_record_read(const uint8_t *text, size_t text_bytes, uint64_t shown[
 uint8_t card_record_write(uint64_t number, uint16_t version, uint64_t algorithm, uint64_t usage, uint64_t side,
                           uint64_t place, const uint8_t key[CARD_KEY_BYTES], uint8_t *buffer, size_t buffer_bytes,
                           size_t *length);
+
+/* Loads every record of a sheet into an empty table, one after the other, and leaves the table's listing at the front of
+   the buffer: a header, a line for each filled slot without its key, and their count. Where a record is refused, the
+   listing is only the line `refused=N record=R line=L`, with the record counted from 1. Each line ends with LF; no NUL
+   follows. Answers the listing's length, and keeps the bytes after it. A buffer of fewer than CARD_LISTING_BYTES bytes
+   stays as it is, and the answer is 0. */
+size_t card_slotlist(const uint8_t *sheet, size_t sheet_bytes, uint8_t *buffer, size_t buffer_bytes);
 
 /* Which bits of a direct mode PDU are ciphered. kind: 1 DMAC-DATA, 2 DMAC-SYNC on SCH/H, 3 DMAC-SYNC on SCH/S; state:
    0..3; flag: the fragmentation flag, 0 or 1; the PDU's length, and where its address and its DM-SDU start, in bits

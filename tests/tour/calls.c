@@ -10,6 +10,7 @@ int main(void) {
     uint64_t shown[6];
     uint8_t key[CARD_KEY_BYTES], written[CARD_RECORD_BYTES], keystream[40] = {0};
     const uint8_t iv[CARD_IV_BYTES] = {0};
+    uint8_t listing[CARD_LISTING_BYTES];
     size_t used, line, length, pieces[6], blocks;
 
     printf("record read: %d\n", card_record_read((const uint8_t *)record, strlen(record), shown, key, &used, &line));
@@ -19,6 +20,9 @@ int main(void) {
     printf("record write: %d\n", card_record_write(shown[0], (uint16_t)shown[1], shown[2], shown[3], shown[4], shown[5],
                                                    key, written, sizeof written, &length));
     printf("%s\n", length == used && memcmp(written, record, length) == 0 ? "the same" : "another");
+
+    length = card_slotlist((const uint8_t *)record, strlen(record), listing, sizeof listing);
+    printf("%.*s", (int)length, (const char *)listing);
 
     printf("plan: %d\n", card_plan(1, 3, 0, 124, 10, 50, pieces));
     for (int i = 0; i < 6; i++) printf("%d%s", (int)pieces[i], i < 5 ? " " : "\n");

@@ -10,7 +10,9 @@
 use std::ptr;
 use std::sync::atomic::{compiler_fence, Ordering};
 
-use crate::{wipe, Asked, Fields, Key, Pdu, Record, Refusal, Slot, Span, KEY_BYTES};
+use crate::{
+    wipe, Asked, Fields, Key, Pdu, Record, Refusal, Slot, Span, KEY_BYTES, LISTING_BYTES,
+};
 
 extern "C" {
     fn card_load(
@@ -89,6 +91,13 @@ extern "C" {
         buffer_bytes: usize,
         length: *mut usize,
     ) -> u8;
+
+    fn card_slotlist(
+        sheet: *const u8,
+        sheet_bytes: usize,
+        buffer: *mut u8,
+        buffer_bytes: usize,
+    ) -> usize;
 
     fn card_plan(
         kind: u64,
@@ -286,6 +295,22 @@ pub fn record_write(
     };
     wipe::stack_below();
     answered(answer, length)
+}
+
+/// The listing's length, and the listing at the front of the bytes.
+pub fn slotlist(sheet: &[u8]) -> (usize, [u8; LISTING_BYTES]) {
+    let mut buffer = [0; LISTING_BYTES];
+    // Safety: each pointer is good for its length, and the library keeps none of them.
+    let length = unsafe {
+        card_slotlist(
+            sheet.as_ptr(),
+            sheet.len(),
+            buffer.as_mut_ptr(),
+            buffer.len(),
+        )
+    };
+    wipe::stack_below();
+    (length, buffer)
 }
 
 /// Start, length and skip of the first piece and of the second.

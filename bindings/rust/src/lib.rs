@@ -21,7 +21,7 @@ pub use code::{Algorithm, Code, Direction, PduKind, Use, KEEP};
 pub use fields::{Asked, Fields};
 pub use key::Key;
 pub use plan::{plan, Pdu};
-pub use record::{record_read, record_write, Record};
+pub use record::{record_read, record_write, slotlist, Record};
 pub use refusal::Refusal;
 pub use span::Span;
 pub use table::{Slot, Table};
@@ -39,3 +39,5 @@ pub const BUFFER_BYTES: usize = 8192;
 pub const KEYSTREAM_BITS: usize = 8288;
 /// The longest record.
 pub const RECORD_BYTES: usize = 111;
+/// Room for every listing of a sheet.
+pub const LISTING_BYTES: usize = 2048;

@@ -64,3 +64,20 @@ pub fn record_write(
 ) -> Result<usize, Refusal> {
     ffi::record_write(number, &fields.into(), key, buffer)
 }
+
+/// The listing of a sheet of records: every record is loaded into an empty table, and each filled slot is
+/// listed without its key. Where a record is refused, the listing is the refusal's line alone.
+///
+/// ```
+/// use card::slotlist;
+///
+/// let listing = slotlist(include_bytes!("../../../samples/keys.txt"));
+/// assert!(listing.starts_with("table=32\nnumber=1 version=17 alg=TEA5 use=BOTH side=0 place=28\n"));
+/// assert!(listing.ends_with("filled=4\n"));
+/// let refused = slotlist(include_bytes!("../../../samples/damaged.txt"));
+/// assert_eq!(refused, "refused=15 record=2 line=6\n");
+/// ```
+pub fn slotlist(sheet: &[u8]) -> String {
+    let (length, buffer) = ffi::slotlist(sheet);
+    String::from_utf8_lossy(&buffer[..length]).into_owned()
+}

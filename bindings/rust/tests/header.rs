@@ -52,6 +52,7 @@ fn every_number_of_the_header_is_here() {
         ("BUFFER_BYTES", card::BUFFER_BYTES as u64),
         ("KEYSTREAM_BITS", card::KEYSTREAM_BITS as u64),
         ("RECORD_BYTES", card::RECORD_BYTES as u64),
+        ("LISTING_BYTES", card::LISTING_BYTES as u64),
         ("TEA5", Algorithm::Tea5.into()),
         ("TEA6", Algorithm::Tea6.into()),
         ("TEA7", Algorithm::Tea7.into()),

@@ -1,7 +1,6 @@
 pub mod Copies
 pub mod Passed
 pub mod Laws
-pub mod Values
 pub mod SlotLaws
 pub mod Walk
 pub mod Shared

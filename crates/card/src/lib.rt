@@ -2,6 +2,7 @@
 pub mod bench;
 mod lent;
 mod lent_table;
+pub mod listing;
 pub mod pdu;
 pub mod record;
 mod span_tests;

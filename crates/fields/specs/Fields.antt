@@ -42,3 +42,7 @@ storedOf a = record { version = a .version; algorithm = a .algorithm; usage = a 
 -- the same numbers, as a caller gives them
 abbrev pub askedOf : Fields → Asked
 askedOf f = record { version = f .version; algorithm = f .algorithm; usage = f .usage; side = f .side; place = f .place }
+
+-- zero in every field
+abbrev pub noFields : Fields
+noFields = record { version = 0; algorithm = 0; usage = 0; side = 0; place = 0 }

@@ -19,8 +19,8 @@ use Rattle.rounds.specs.Steps.{byteSub, shiftRow, mixedByte, mixColumn, addRoun
 use Rattle.schedule.specs.Schedule.{keyWord, rotByte, subByte, roundConstant, carried, packed}
 use Rattle.rijndael.specs.Cipher.{toState, toBlock, rounds, encrypted, cipher}
 use Rattle.tea.specs.declared.mode.Mode.{Mode}
-use Rattle.tea.specs.Combining.{fTea5}
-use Rattle.tea.specs.Algorithm.{combining, digitOf}
+use Rattle.algorithms.specs.Combining.{fTea5}
+use Rattle.algorithms.specs.Algorithm.{combining, digitOf}
 use Rattle.tea.specs.Mixing.{mixedByte as mixingByte, mixedValue}
 use Rattle.tea.specs.Mode.{modeKey, modeValue, modeBy, modeOf}
 use Rattle.tea.specs.Keystream.{plaintext, blockOf}

@@ -12,7 +12,8 @@ use borrow.Author.Tests.{leb-true}
 use Rattle.laws.specs.Choice.{pick}
 use Rattle.laws.proofs.Cases.{lt-or-le}
 use Rattle.refusals.specs.Numbers.{done, codeUnknown, sideOrPlaceBad}
-use Rattle.fields.specs.Fields.{isAlgorithm, isUse, isSide, isPlace, rightsRefusal}
+use Rattle.algorithms.specs.Algorithm.{nameOf}
+use Rattle.fields.specs.Fields.{isUse, isSide, isPlace, rightsRefusal}
 use Rattle.fields.proofs.Ranges.{between-high}
 use Rattle.fields.specs.declared.Asked.{Asked}
 use Rattle.fields.specs.declared.Fields.{Fields}
@@ -54,6 +55,10 @@ use-length u = go (eqb u 1) (eqb u 2)
     go false true = refl
     go false false = refl
 
+pub name-length : (algorithm : ℕ) → length (nameOf algorithm) ≡ 4
+unfolding nameOf
+name-length algorithm = refl
+
 line-length : (name : String) (value rest : List ℕ) → length (lineText name value ++ rest) ≡ length (ascii name) + (length value + (1 + length rest))
 line-length name value rest =
     omega (
@@ -63,26 +68,26 @@ line-length name value rest =
       length-append value (lf ∷ []),
     )
 
-pub text-length : (number : ℕ) (f : Fields) (key : List ℕ) → isAlgorithm (f .algorithm) ≡ true → isSide (f .side) ≡ true → length key ≡ 24
+pub text-length : (number : ℕ) (f : Fields) (key : List ℕ) → isSide (f .side) ≡ true → length key ≡ 24
     → length (recordText number f key) ≡ 102 + (length (digits number) + (length (digits (f .version)) + length (digits (f .place))))
 unfolding recordText
-text-length number f key a s k =
+text-length number f key s k =
     let seventh = lineText "key=" (hexText key) in
     let sixth = lineText "place=" (digits (f .place)) ++ seventh in
     let fifth = lineText "side=" (digits (f .side)) ++ sixth in
     let fourth = lineText "use=" (useWord (f .usage)) ++ fifth in
-    let third = lineText "alg=TEA" (digits (f .algorithm)) ++ fourth in
+    let third = lineText "alg=" (nameOf (f .algorithm)) ++ fourth in
     let second = lineText "version=" (digits (f .version)) ++ third in
     omega (
       arith,
       line-length "number=" (digits number) second,
       line-length "version=" (digits (f .version)) third,
-      line-length "alg=TEA" (digits (f .algorithm)) fourth,
+      line-length "alg=" (nameOf (f .algorithm)) fourth,
       line-length "use=" (useWord (f .usage)) fifth,
       line-length "side=" (digits (f .side)) sixth,
       line-length "place=" (digits (f .place)) seventh,
       length-append (hexText key) (lf ∷ []),
-      length-one (f .algorithm) (omega (arith, between-high 5 (f .algorithm) 7 a)),
+      name-length (f .algorithm),
       use-length (f .usage),
       length-one (f .side) (omega (arith, leb-true (f .side) 1 s)),
       length-hex key,
@@ -109,7 +114,7 @@ pub text-size : (number : ℕ) (f : Fields) (key : List ℕ) → Good number f k
     → (105 ≤ length (recordText number f key)) × (length (recordText number f key) ≤ 111)
 unfolding AtMost
 text-size number f key g =
-    let e = text-length number f key (g .algorithm) (g .side) (g .size) in
+    let e = text-length number f key (g .side) (g .size) in
     let n = two-digits number (omega (arith, between-high 1 number 32 (g .slot))) in
     let v = five-digits (f .version) (omega (arith, g .version)) in
     let p = two-digits (f .place) (omega (arith, leb-true (f .place) 79 (g .place))) in

@@ -1,5 +1,6 @@
 pub mod Forms
 pub mod Decimals
+pub mod Choices
 pub mod Words
 pub mod Hexes
 pub mod Records
@@ -10,4 +11,3 @@ pub mod Puts
 pub mod Lengths
 pub mod Refusals
 pub mod Promises
-pub mod Sheet

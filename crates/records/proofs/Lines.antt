@@ -14,6 +14,7 @@ use lib.Seq.{take-suc}
 use borrow.Author.Tests.{eq-eqb, ne-eqb}
 use Rattle.laws.specs.Choice.{pick}
 use Rattle.laws.proofs.Cases.{lt-or-le}
+use Rattle.algorithms.specs.Algorithm.{digitOf, nameOf}
 use Rattle.fields.specs.declared.Fields.{Fields}
 use Rattle.records.specs.Text.{ascii, lf, digits, useWord, hexDigit, hexText, lineText, recordText}
 use Rattle.records.proofs.Decimals.{digits-one, digits-ten}
@@ -65,6 +66,15 @@ no-end-digits (suc k) n h =
 no-end-number : (n : ℕ) → lineEnds (digits n) ≡ 0
 no-end-number n = no-end-digits n n (omega arith)
 
+no-end-name : (a : ℕ) → lineEnds (nameOf a) ≡ 0
+unfolding nameOf digitOf lineEnds
+no-end-name a = go (eqb a 5) (eqb a 6)
+  where
+    go : (x y : Bool) → 0 + (0 + (0 + (pick (eqb (pick x 53 (pick y 54 55)) lf) 1 0 + 0))) ≡ 0
+    go true y = refl
+    go false true = refl
+    go false false = refl
+
 no-end-use : (u : ℕ) → lineEnds (useWord u) ≡ 0
 unfolding useWord lineEnds
 no-end-use u = go (eqb u 1) (eqb u 2)
@@ -106,7 +116,7 @@ seven-ends number f key =
     let last : lineEnds (lineText "key=" (hexText key)) ≡ 1 = omega (arith, ends-append (hexText key) (lf ∷ []), no-end-hex key) in
     one-line "number=" (digits number) _ refl (no-end-number number)
     ∙ ap (1 +_) (one-line "version=" (digits (f .version)) _ refl (no-end-number (f .version))
-    ∙ ap (1 +_) (one-line "alg=TEA" (digits (f .algorithm)) _ refl (no-end-number (f .algorithm))
+    ∙ ap (1 +_) (one-line "alg=" (nameOf (f .algorithm)) _ refl (no-end-name (f .algorithm))
     ∙ ap (1 +_) (one-line "use=" (useWord (f .usage)) _ refl (no-end-use (f .usage))
     ∙ ap (1 +_) (one-line "side=" (digits (f .side)) _ refl (no-end-number (f .side))
     ∙ ap (1 +_) (one-line "place=" (digits (f .place)) _ refl (no-end-number (f .place))
@@ -125,7 +135,7 @@ unfolding recordText
 record-ended number f key =
     ended-after (lineText "number=" (digits number))
     (ended-after (lineText "version=" (digits (f .version)))
-    (ended-after (lineText "alg=TEA" (digits (f .algorithm)))
+    (ended-after (lineText "alg=" (nameOf (f .algorithm)))
     (ended-after (lineText "use=" (useWord (f .usage)))
     (ended-after (lineText "side=" (digits (f .side)))
     (ended-after (lineText "place=" (digits (f .place)))

@@ -1,6 +1,6 @@
 -- What reading and writing promise, in terms of the texts of good records (specs/Text.antt) alone. Read that file first, then the statements
 -- here; the forms (specs/Form.antt and the files after it) are one way to read that keeps these promises, and the contracts cite it.
--- proofs/Lengths.antt has the length of a text, 105 to 111 bytes, and proofs/Sheet.antt the document's sheet. Assumes nothing.
+-- proofs/Lengths.antt has the length of a text, 105 to 111 bytes. Assumes nothing.
 use mathlib.Core.Path.{_≡_, refl, sym, ap, subst, _∙_}
 use mathlib.Core.Logic.{_⊎_, inl, inr, ⊎-elim}
 use mathlib.Core.List.{List, [], _∷_, _++_, append-nil, append-assoc}
@@ -17,7 +17,7 @@ use Rattle.fields.specs.declared.Asked.{Asked}
 use Rattle.fields.specs.declared.Fields.{Fields}
 use Rattle.records.specs.Text.{recordText, Good}
 use Rattle.records.specs.Form.{Outcome, found, wrong, readAt}
-use Rattle.records.specs.Record.{Entry, recordForm, lineEnds, lineOf, accepted, refusedAt, readAnswer, recordRead, recordWritten, bufferWritten}
+use Rattle.records.specs.Record.{Entry, recordForm, lineEnds, lineOf, entryRead, refusedAt, readAnswer, recordRead, recordWritten, bufferWritten}
 use Rattle.records.proofs.Forms.{Spells, reads, spelt, Stop, stops, stop-within}
 use Rattle.records.proofs.Records.{record-means}
 use Rattle.records.proofs.Lines.{six-ends}
@@ -49,7 +49,7 @@ pub record Stuck (s : List ℕ) (place : ℕ) : Type 0 where
 
 -- a good record at the front is read, whatever follows it
 pub good-is-read : (s : List ℕ) (number : ℕ) (f : Fields) (key : List ℕ) → Begins s number f key
-    → recordRead s ≡ accepted (record { number = number; fields = f; key = key }) (length (recordText number f key))
+    → recordRead s ≡ entryRead (record { number = number; fields = f; key = key }) (length (recordText number f key))
 unfolding recordRead
 good-is-read s number f key b =
     let e : Entry = record { number = number; fields = f; key = key } in
@@ -185,7 +185,7 @@ read-then-written s b h l =
 pub written-then-read : (number : ℕ) (asked : Asked) (key b : List ℕ) → asked .version ≤ 65535 → length key ≡ 24 → ((i : ℕ) → getD key i 0 < 256)
     → recordWritten number asked key b .refusal ≡ done
     → recordRead (bufferWritten number asked key b)
-    ≡ accepted (record { number = number; fields = storedOf asked; key = key }) (recordWritten number asked key b .length)
+    ≡ entryRead (record { number = number; fields = storedOf asked; key = key }) (recordWritten number asked key b .length)
 unfolding recordWritten
 written-then-read number asked key b v n k h =
     let t = recordText number (storedOf asked) key in
@@ -195,4 +195,4 @@ written-then-read number asked key b v n k h =
     let g : Good number (storedOf asked) key =
     record { slot = a .slot; version = v; algorithm = a .algorithm; usage = r .usage; side = r .side; place = r .place; size = n; bytes = k } in
     good-is-read (bufferWritten number asked key b) number (storedOf asked) key (record { good = g; rest = drop (length t) b; is = w .1 })
-    ∙ ap (accepted (record { number = number; fields = storedOf asked; key = key })) (sym (ap (λ x. x .length) (w .0)))
+    ∙ ap (entryRead (record { number = number; fields = storedOf asked; key = key })) (sym (ap (λ x. x .length) (w .0)))

@@ -7,9 +7,8 @@ use native.Mathlib.Numerals.{add-one}
 use native.Mathlib.Omega.{arith}
 use lib.ListN.{length, getD, take, drop, set, drop-of-length-le, length-append}
 use lib.Seq.{drop-cons, take-suc, take-all, length-take-le, sets, length-sets, set-comm}
-use borrow.Author.Tests.{eq-eqb, ne-eqb}
 use Rattle.laws.proofs.Cases.{lt-or-le}
-use Rattle.records.specs.Text.{ascii, digits, useWord, hexDigit, hexText}
+use Rattle.records.specs.Text.{lf, digits, hexDigit, hexText}
 use Rattle.records.specs.Writing.{Room, Put}
 use Rattle.records.proofs.Decimals.{digits-one, digits-ten}
 
@@ -60,6 +59,18 @@ put-as {b} {b′} {at} {end} e p = subst (λ (x : List ℕ). Put b at x b′ end
 pub room-as : {b : List ℕ} {at : ℕ} {s t : List ℕ} → s ≡ t → Room b at s → Room b at t
 room-as {b} {at} e h = subst (Room b at) e h
 
+-- a line whose word is known by another name
+line-as : (name : List ℕ) {v w : List ℕ} → v ≡ w → name ++ (v ++ (lf ∷ [])) ≡ name ++ (w ++ (lf ∷ []))
+line-as name e = ap (λ (x : List ℕ). name ++ (x ++ (lf ∷ []))) e
+
+pub word-put : {b b′ : List ℕ} {at end : ℕ} (name : List ℕ) {v w : List ℕ} → v ≡ w → Put b at (name ++ (v ++ (lf ∷ []))) b′ end
+    → Put b at (name ++ (w ++ (lf ∷ []))) b′ end
+word-put name e p = put-as (line-as name e) p
+
+pub word-room : {b : List ℕ} {at : ℕ} (name : List ℕ) {v w : List ℕ} → v ≡ w → Room b at (name ++ (w ++ (lf ∷ [])))
+    → Room b at (name ++ (v ++ (lf ∷ [])))
+word-room name e h = room-as (sym (line-as name e)) h
+
 -- digits, the last one first
 
 pub length-one : (n : ℕ) → n < 10 → length (digits n) ≡ 1
@@ -86,21 +97,6 @@ put-digit b at n i h e =
     ap (sets b at) (digits-ten n h) ∙ sets-append b at (digits (n / 10)) ((48 + n % 10) ∷ [])
     ∙ ap (λ (k : ℕ). set (sets b at (digits (n / 10))) k (48 + n % 10)) (sym e)
     ∙ set-after b at (digits (n / 10)) i (48 + n % 10) (omega arith)
-
--- the word of a use
-
-module _ (u : ℕ) where
-  pub use-send : u ≡ 1 → useWord u ≡ ascii "SEND"
-  unfolding useWord
-  use-send e = rw (eq-eqb u 1 e)
-
-  pub use-recv : (u ≡ 1 → ⊥) → u ≡ 2 → useWord u ≡ ascii "RECV"
-  unfolding useWord
-  use-recv n e = rw (ne-eqb u 1 n, eq-eqb u 2 e)
-
-  pub use-both : (u ≡ 1 → ⊥) → (u ≡ 2 → ⊥) → useWord u ≡ ascii "BOTH"
-  unfolding useWord
-  use-both n m = rw (ne-eqb u 1 n, ne-eqb u 2 m)
 
 -- hex digits
 

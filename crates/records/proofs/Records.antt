@@ -4,7 +4,8 @@ use mathlib.Core.List.{List}
 use mathlib.Core.Bool.{true}
 use Prim.Native.Nat.{ℕ, _≤_}
 use Prim.Native.String.{String}
-use Rattle.fields.specs.Fields.{isUse}
+use Rattle.algorithms.specs.Algorithm.{nameOf}
+use Rattle.fields.specs.Fields.{isAlgorithm, isUse}
 use Rattle.fields.specs.declared.Fields.{Fields}
 use native.Mathlib.Omega.{arith}
 use borrow.Author.Tests.{leb-true, le-leb}
@@ -16,12 +17,12 @@ use Rattle.records.specs.Reading.{onward, goodTo, answer, keyAnswer}
 use Rattle.records.specs.Text.{ascii, digits, useWord, hexText, lineText, recordText, Good}
 use Rattle.records.specs.Form.{found, wrong, readAt, literal, line}
 use Rattle.records.specs.Decimals.{decimal}
-use Rattle.records.specs.Words.{useForm}
+use Rattle.records.specs.Words.{useForm, algorithmForm}
 use Rattle.records.specs.Hexes.{keyForm}
 use Rattle.records.specs.Record.{Entry, recordForm}
 use Rattle.records.proofs.Forms.{Means, line-means, then-means, last-means}
 use Rattle.records.proofs.Decimals.{decimal-means, between-is}
-use Rattle.records.proofs.Words.{use-means}
+use Rattle.records.proofs.Words.{use-means, algorithm-means}
 use Rattle.records.proofs.Steps.{on-at, on-then, key-then, step-done}
 use Rattle.records.proofs.Hexes.{Bytes, key-means}
 
@@ -36,8 +37,8 @@ number-line = line-means "number=" (decimal 1 32) (decimal-means 1 32 (omega ari
 pub version-line : NumberLine "version=" 0 65535
 version-line = line-means "version=" (decimal 0 65535) (decimal-means 0 65535 (omega arith) (λ _. omega arith))
 
-pub algorithm-line : NumberLine "alg=TEA" 5 7
-algorithm-line = line-means "alg=TEA" (decimal 5 7) (decimal-means 5 7 (omega arith) (λ h. omega arith))
+pub algorithm-line : Means (line "alg=" algorithmForm) (λ a. isAlgorithm a ≡ true) (λ a. lineText "alg=" (nameOf a))
+algorithm-line = line-means "alg=" algorithmForm algorithm-means
 
 pub use-line : Means (line "use=" useForm) (λ u. isUse u ≡ true) (λ u. lineText "use=" (useWord u))
 use-line = line-means "use=" useForm use-means
@@ -60,7 +61,7 @@ abbrev AllGood : Entry → Type 0
 AllGood e =
     InRange 1 (e .number) 32
     × (InRange 0 (e .fields .version) 65535
-    × (InRange 5 (e .fields .algorithm) 7
+    × ((isAlgorithm (e .fields .algorithm) ≡ true)
     × ((isUse (e .fields .usage) ≡ true)
     × (InRange 0 (e .fields .side) 1
     × (InRange 0 (e .fields .place) 79
@@ -71,7 +72,7 @@ unfolding recordForm recordText
 all-means =
     then-means (line "number=" (decimal 1 32)) (λ e. e .number) number-line _
     (λ number. then-means (line "version=" (decimal 0 65535)) (λ e. e .fields .version) version-line _
-    (λ version. then-means (line "alg=TEA" (decimal 5 7)) (λ e. e .fields .algorithm) algorithm-line _
+    (λ version. then-means (line "alg=" algorithmForm) (λ e. e .fields .algorithm) algorithm-line _
     (λ algorithm. then-means (line "use=" useForm) (λ e. e .fields .usage) use-line _
     (λ usage. then-means (line "side=" (decimal 0 1)) (λ e. e .fields .side) side-line _
     (λ side. then-means (line "place=" (decimal 0 79)) (λ e. e .fields .place) place-line _
@@ -89,7 +90,7 @@ is-good e g =
     record {
       slot = between-is 1 (e .number) 32 (g .0 .0) (g .0 .1);
       version = g .1 .0 .1;
-      algorithm = between-is 5 (e .fields .algorithm) 7 (g .1 .1 .0 .0) (g .1 .1 .0 .1);
+      algorithm = g .1 .1 .0;
       usage = g .1 .1 .1 .0;
       side = le-leb (e .fields .side) 1 (g .1 .1 .1 .1 .0 .1);
       place = le-leb (e .fields .place) 79 (g .1 .1 .1 .1 .1 .0 .1);
@@ -103,7 +104,7 @@ all-good e g = (
   (
     (omega arith, g .version),
     (
-      (between-low 5 (e .fields .algorithm) 7 (g .algorithm), between-high 5 (e .fields .algorithm) 7 (g .algorithm)),
+      g .algorithm,
       (
         g .usage,
         (
@@ -142,11 +143,12 @@ record-means =
     }
 
 -- Reading line after line, each after the one before it, is reading the record.
-module _ (s : List ℕ) {number version algorithm useName usage side place keyName : Reading} {key : KeyReading} where
+module _ (s : List ℕ) {number version algName algorithm useName usage side place keyName : Reading} {key : KeyReading} where
   pub lines-read :
       number ≡ answer (onward (goodTo 0 0) (line "number=" (decimal 1 32)) s)
       → version ≡ answer (onward number (line "version=" (decimal 0 65535)) s)
-      → algorithm ≡ answer (onward version (line "alg=TEA" (decimal 5 7)) s)
+      → algName ≡ answer (onward version (literal (ascii "alg=")) s)
+      → algorithm ≡ answer (onward algName algorithmForm s)
       → useName ≡ answer (onward algorithm (literal (ascii "use=")) s)
       → usage ≡ answer (onward useName useForm s)
       → side ≡ answer (onward usage (line "side=" (decimal 0 1)) s)
@@ -163,11 +165,11 @@ module _ (s : List ℕ) {number version algorithm useName usage side place keyNa
       }) (key .place))
       (wrong (key .place))
   unfolding recordForm
-  lines-read n v a un u si p kn k =
+  lines-read n v an a un u si p kn k =
       sym (on-at recordForm s refl)
       ∙ on-then _ _ _ _ n
       ∙ on-then _ _ _ _ v
-      ∙ on-then _ _ _ _ a
+      ∙ on-then _ _ _ _ (a ∙ ap answer (sym (on-then _ _ _ _ an)))
       ∙ on-then _ _ _ _ (u ∙ ap answer (sym (on-then _ _ _ _ un)))
       ∙ on-then _ _ _ _ si
       ∙ on-then _ _ _ _ p

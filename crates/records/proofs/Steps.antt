@@ -15,7 +15,6 @@ use Rattle.records.specs.declared.reading.KeyReading.{KeyReading}
 use Rattle.records.specs.Text.{lf}
 use Rattle.records.specs.Form.{Form, done, next, Outcome, found, wrong, readAt, literal, _>>=_}
 use Rattle.records.specs.Decimals.{mayFollow, after}
-use Rattle.records.specs.Words.{restOfUse, useForm}
 use Rattle.records.specs.Hexes.{hexOr, halfByte}
 use Rattle.records.specs.Reading.{goodTo, onward, answer, keyAnswer}
 use Rattle.records.proofs.Hexes.{no-digit, a-digit}
@@ -121,20 +120,6 @@ module _ (bytes : List ℕ) (i : ℕ) (s : List ℕ) (p : ℕ) where
       → readAt (literal (drop i bytes)) s p ≡ readAt (literal (drop (i + 1) bytes)) s (p + 1)
   unfolding literal
   literal-yes g h e = rw (add-one i, drop-cons bytes i 0 g) (step-yes _ _ s p h (eq-eqb _ _ e))
-
--- the first letter of a use
-
-module _ (s : List ℕ) (p : ℕ) where
-  pub use-letter : (b : ℕ) → p < length s → getD s p 0 ≡ b → eqb b 83 || (eqb b 82 || eqb b 66) ≡ true
-      → readAt useForm s p ≡ readAt (restOfUse (eqb b 83) (eqb b 82)) s (p + 1)
-  unfolding useForm
-  use-letter b h e k =
-      step-yes _ _ s p h (ap (λ (x : ℕ). eqb x 83 || (eqb x 82 || eqb x 66)) e ∙ k)
-      ∙ ap (λ (x : ℕ). readAt (restOfUse (eqb x 83) (eqb x 82)) s (p + 1)) e
-
-  pub use-none : p < length s → (getD s p 0 ≡ 83 → ⊥) → (getD s p 0 ≡ 82 → ⊥) → (getD s p 0 ≡ 66 → ⊥) → readAt useForm s p ≡ wrong p
-  unfolding useForm
-  use-none h a b c = step-no _ _ s p h (rw (ne-eqb _ _ a, ne-eqb _ _ b) (ne-eqb _ _ c))
 
 -- a hex digit, whose value or else 16 is v
 

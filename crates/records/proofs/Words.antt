@@ -1,56 +1,127 @@
--- The laws of the words of a use: the form `useForm` spells the uses 1, 2, 3 by their words. Assumes nothing.
-use mathlib.Core.Path.{_≡_, refl, subst, _∙_}
+-- The laws of words: `useForm` spells the uses 1, 2, 3 by their words, and `algorithmForm` the algorithms 5, 6, 7 by their names.
+-- Assumes nothing.
+use mathlib.Core.Path.{_≡_, refl, sym, ap, subst, _∙_}
+use mathlib.Core.Logic.{_⊎_, inl, inr, ⊎-elim}
 use mathlib.Core.List.{List, [], _∷_, _++_}
-use mathlib.Core.Bool.{Bool, true, false, _||_, false≢true}
-use Prim.Native.Nat.{ℕ, zero, suc}
-use Prim.Native.String.{String}
+use mathlib.Core.Bool.{true}
+use Prim.Native.Nat.{ℕ, _+_}
 use native.Mathlib.Omega.{arith}
-use lib.Dec.{eqb}
-use borrow.Author.Tests.{eqb-true}
-use Rattle.fields.specs.Fields.{isUse}
-use Rattle.fields.proofs.Ranges.{between-high}
+use lib.ListN.{length}
+use Rattle.laws.proofs.Cases.{eq-or-ne}
+use Rattle.algorithms.specs.Algorithm.{digitOf, nameOf}
+use Rattle.fields.specs.Fields.{between, isAlgorithm, isUse}
+use Rattle.fields.proofs.Ranges.{between-low, between-high}
+use Rattle.records.specs.declared.reading.Reading.{Reading}
 use Rattle.records.specs.Text.{ascii, lf, useWord}
-use Rattle.records.specs.Form.{done, literal, _>>=_}
-use Rattle.records.specs.Words.{word, restOfUse, useForm}
-use Rattle.records.proofs.Forms.{Spells, Live, Means, made, both-live, literal-is, literal-live}
+use Rattle.records.specs.Form.{Form, done, literal, either, _>>=_}
+use Rattle.records.specs.Words.{word, oneOf, useForm, algorithmForm}
+use Rattle.records.specs.Reading.{onward, answer, further}
+use Rattle.records.proofs.Forms.{Spells, Live, Means, parts, made, both-live, literal-is, literal-live}
+use Rattle.records.proofs.Choices.{Long, word-long, either-long, either-onward, either-spells, either-live}
+use Rattle.records.proofs.Decimals.{between-is}
 
-word-is : (t : String) (u v : ℕ) (w : List ℕ) → Spells (word t u) v w → (u ≡ v) × (w ≡ ascii t)
+word-is : (t : List ℕ) (u v : ℕ) (w : List ℕ) → Spells (word t u) v w → (u ≡ v) × (w ≡ t)
 word-is t u v w h =
-    let m = made (literal (ascii t)) (λ _. u) v w h in
-    (m .is, literal-is (ascii t) w (m .value) (m .spells))
+    let m = made (literal t) (λ _. u) v w h in
+    (m .is, literal-is t w (m .value) (m .spells))
 
-word-live : (t : String) (u : ℕ) → Live (word t u)
-word-live t u = both-live (literal (ascii t)) (λ _. done u) (literal-live (ascii t)) (λ _. tt)
+word-live : (t : List ℕ) (u : ℕ) → Live (word t u)
+word-live t u = both-live (literal t) (λ _. done u) (literal-live t) (λ _. tt)
 
-rest-live : (isS isR : Bool) → Live (restOfUse isS isR)
-rest-live true isR = word-live "END\n" 1
-rest-live false true = word-live "ECV\n" 2
-rest-live false false = word-live "OTH\n" 3
+-- three words of one length
+module _ (a b c : List ℕ) (first : ℕ) (two : length b ≡ length a) (three : length c ≡ length a) where
+  long : (w : List ℕ) (v : ℕ) → length w ≡ length a → Long (length a) (word w v)
+  long w v e = subst (λ (n : ℕ). Long n (word w v)) e (word-long w v)
+
+  last-long : Long (length a) (either (word b (first + 1)) (word c (first + 2)))
+  last-long = either-long (length a) (word b (first + 1)) (word c (first + 2)) (long b (first + 1) two) (long c (first + 2) three)
+
+  -- each is read from the same place, and what came furthest counts
+  pub furthest : (before : Reading) (s : List ℕ)
+      → answer (onward before (either (word a first) (either (word b (first + 1)) (word c (first + 2)))) s)
+      ≡ further (answer (onward before (word a first) s)) (further (answer (onward before (word b (first + 1)) s)) (answer (onward before (word c (first + 2)) s)))
+  furthest before s =
+      either-onward (length a) (word a first) _ (word-long a first) last-long before s
+      ∙ ap (further (answer (onward before (word a first) s)))
+      (either-onward (length a) (word b (first + 1)) (word c (first + 2)) (long b (first + 1) two) (long c (first + 2) three) before s)
+
+  abbrev IsOne : ℕ → List ℕ → Type 0
+  IsOne v w = ((first ≡ v) × (w ≡ a)) ⊎ (((first + 1 ≡ v) × (w ≡ b)) ⊎ ((first + 2 ≡ v) × (w ≡ c)))
+
+  is-one : (v : ℕ) (w : List ℕ) → Spells (either (word a first) (either (word b (first + 1)) (word c (first + 2)))) v w → IsOne v w
+  is-one v w h =
+      ⊎-elim (λ k. inl (word-is a first v w k))
+      (λ k. inr (⊎-elim (λ i. inl (word-is b (first + 1) v w i)) (λ i. inr (word-is c (first + 2) v w i))
+      (either-spells (length a) (word b (first + 1)) (word c (first + 2)) (long b (first + 1) two) (long c (first + 2) three) v w k)))
+      (either-spells (length a) (word a first) _ (word-long a first) last-long v w h)
+
+-- the words of three values in a row, each spelt as it should be
+
+module _ (wordOf : ℕ → List ℕ) (first : ℕ) where
+  abbrev text : ℕ → List ℕ
+  text v = wordOf v ++ (lf ∷ [])
+
+  abbrev form : Form ℕ
+  form = oneOf first (wordOf first) (wordOf (first + 1)) (wordOf (first + 2))
+
+  abbrev InRow : ℕ → Type 0
+  InRow v = between first v (first + 2) ≡ true
+
+  module _ (two : length (wordOf (first + 1)) ≡ length (wordOf first)) (three : length (wordOf (first + 2)) ≡ length (wordOf first)) where
+    only : (v : ℕ) (w : List ℕ) → Spells form v w → InRow v × (w ≡ text v)
+    unfolding oneOf
+    only v w h =
+        let p = parts _ (λ u. word (ascii "\n") u) v w h in
+        let e = word-is (ascii "\n") (p .value) v (p .two) (p .second) in
+        let o = is-one (wordOf first) (wordOf (first + 1)) (wordOf (first + 2)) first two three (p .value) (p .one) (p .first) in
+        let r = row (p .value) (p .one) o in
+        (subst InRow (e .0) (r .0), p .joined ∙ (λ i. (r .1 ∙ ap wordOf (e .0)) i ++ e .1 i))
+      where
+        named-so : (u v : ℕ) (w : List ℕ) → InRow u → u ≡ v → w ≡ wordOf u → InRow v × (w ≡ wordOf v)
+        named-so u v w i e k = (subst InRow e i, k ∙ ap wordOf e)
+
+        row : (v : ℕ) (w : List ℕ) → IsOne (wordOf first) (wordOf (first + 1)) (wordOf (first + 2)) first two three v w → InRow v × (w ≡ wordOf v)
+        row v w (inl k) = named-so first v w (between-is first first (first + 2) (omega arith) (omega arith)) (k .0) (k .1)
+        row v w (inr (inl k)) = named-so (first + 1) v w (between-is first (first + 1) (first + 2) (omega arith) (omega arith)) (k .0) (k .1)
+        row v w (inr (inr k)) = named-so (first + 2) v w (between-is first (first + 2) (first + 2) (omega arith) (omega arith)) (k .0) (k .1)
+
+    form-live : Live form
+    unfolding oneOf
+    form-live =
+        both-live _ (λ u. word (ascii "\n") u)
+        (either-live (word (wordOf first) first) _ (word-live (wordOf first) first)
+        (either-live (word (wordOf (first + 1)) (first + 1)) (word (wordOf (first + 2)) (first + 2))
+        (word-live (wordOf (first + 1)) (first + 1))
+        (word-live (wordOf (first + 2)) (first + 2))))
+        (λ u. word-live (ascii "\n") u)
+
+    words-mean : Spells form first (text first) → Spells form (first + 1) (text (first + 1)) → Spells form (first + 2) (text (first + 2))
+        → Means form InRow text
+    words-mean a b c = record { spells = spells; only = only; live = form-live }
+      where
+        at : (u v : ℕ) → u ≡ v → Spells form u (text u) → Spells form v (text v)
+        at u v e h = subst (λ (x : ℕ). Spells form x (text x)) e h
+
+        spells : (v : ℕ) → InRow v → Spells form v (text v)
+        spells v i =
+            let l = between-low first v (first + 2) i in
+            let h = between-high first v (first + 2) i in
+            ⊎-elim (λ e. at first v (sym e) a)
+            (λ n. ⊎-elim (λ e. at (first + 1) v (sym e) b) (λ m. at (first + 2) v (omega arith) c) (eq-or-ne v (first + 1)))
+            (eq-or-ne v first)
 
 pub use-means : Means useForm (λ u. isUse u ≡ true) (λ u. useWord u ++ (lf ∷ []))
-unfolding useForm useWord literal _>>=_
-use-means = record { spells = spells; only = only; live = (83, refl, λ b e. rest-live (eqb b 83) (eqb b 82)) }
-  where
-    spells : (u : ℕ) → isUse u ≡ true → Spells useForm u (useWord u ++ (lf ∷ []))
-    spells zero e = absurd (false≢true e)
-    spells (suc zero) e = (refl, (refl, (refl, (refl, (refl, refl)))))
-    spells (suc (suc zero)) e = (refl, (refl, (refl, (refl, (refl, refl)))))
-    spells (suc (suc (suc zero))) e = (refl, (refl, (refl, (refl, (refl, refl)))))
-    spells (suc (suc (suc (suc u)))) e = absurd (omega (arith, between-high 1 (suc (suc (suc (suc u)))) 3 e))
+unfolding useForm useWord oneOf either literal _>>=_
+use-means =
+    words-mean useWord 1 refl refl
+    (refl, (refl, (refl, (refl, (refl, refl)))))
+    (refl, (refl, (refl, (refl, (refl, refl)))))
+    (refl, (refl, (refl, (refl, (refl, refl)))))
 
-    only : (u : ℕ) (w : List ℕ) → Spells useForm u w → (isUse u ≡ true) × (w ≡ useWord u ++ (lf ∷ []))
-    only u [] h = absurd h
-    only u (b ∷ w) h = go (eqb b 83) (eqb b 82) refl refl (h .0) (h .1)
-      where
-        is : (t : String) (v first : ℕ) → eqb b first ≡ true → isUse v ≡ true → first ∷ ascii t ≡ useWord v ++ (lf ∷ [])
-            → Spells (word t v) u w → (isUse u ≡ true) × (b ∷ w ≡ useWord u ++ (lf ∷ []))
-        is t v first e g c k =
-            let r = word-is t v u w k in
-            subst (λ (x : ℕ). (isUse x ≡ true) × (b ∷ w ≡ useWord x ++ (lf ∷ []))) (r .0)
-            (g, (λ i. eqb-true b first e i ∷ r .1 i) ∙ c)
-
-        go : (isS isR : Bool) → eqb b 83 ≡ isS → eqb b 82 ≡ isR → isS || (isR || eqb b 66) ≡ true → Spells (restOfUse isS isR) u w
-            → (isUse u ≡ true) × (b ∷ w ≡ useWord u ++ (lf ∷ []))
-        go true isR e f k h = is "END\n" 1 83 e refl refl h
-        go false true e f k h = is "ECV\n" 2 82 f refl refl h
-        go false false e f k h = is "OTH\n" 3 66 k refl refl h
+pub algorithm-means : Means algorithmForm (λ a. isAlgorithm a ≡ true) (λ a. nameOf a ++ (lf ∷ []))
+unfolding algorithmForm nameOf digitOf oneOf either literal _>>=_
+algorithm-means =
+    words-mean nameOf 5 refl refl
+    (refl, (refl, (refl, (refl, (refl, refl)))))
+    (refl, (refl, (refl, (refl, (refl, refl)))))
+    (refl, (refl, (refl, (refl, (refl, refl)))))

@@ -1,6 +1,6 @@
 -- Forms of text: how a text is read byte by byte, and where reading stops. Assumes nothing: these are definitions.
 use mathlib.Core.List.{List, [], _∷_}
-use mathlib.Core.Bool.{Bool, _&&_}
+use mathlib.Core.Bool.{Bool, _&&_, _||_}
 use Prim.Native.Nat.{ℕ, suc}
 use Prim.Native.String.{String}
 use lib.Dec.{eqb, ltb}
@@ -32,6 +32,13 @@ readAt (next may then) s p = pick (stands may s p) (readAt (then (getD s p 0)) s
 unfoldable pub _>>=_ : {A B : Type 0} → Form A → (A → Form B) → Form B
 _>>=_ (done v) g = g v
 _>>=_ (next may then) g = next may (λ b. then b >>= g)
+
+-- by one form or by another, where neither is done before the other: a byte that may stand next in either, and then those that take it
+unfoldable pub either : {A : Type 0} → Form A → Form A → Form A
+either (done v) g = done v
+either (next may then) (done v) = done v
+either (next may then) (next may′ then′) =
+    next (λ b. may b || may′ b) (λ b. pick (may b) (pick (may′ b) (either (then b) (then′ b)) (then b)) (then′ b))
 
 -- these bytes, for the value 0
 unfoldable pub literal : List ℕ → Form ℕ

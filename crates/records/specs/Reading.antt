@@ -1,7 +1,8 @@
 -- What the readers answer, each after what was read before it. Assumes nothing: these are definitions.
 use mathlib.Core.List.{List}
-use mathlib.Core.Bool.{true, false}
+use mathlib.Core.Bool.{true, false, _||_}
 use Prim.Native.Nat.{ℕ}
+use lib.Dec.{ltb}
 use lib.ListN.{replicate}
 use Rattle.laws.specs.Choice.{pick}
 use Rattle.records.specs.declared.reading.Reading.{Reading}
@@ -21,6 +22,10 @@ wrongAt p = record { good = false; value = 0; place = p }
 abbrev pub answer : Outcome ℕ → Reading
 answer (found v p) = goodTo v p
 answer (wrong p) = wrongAt p
+
+-- of two readings from one place: the good one, or else the one that came further
+abbrev pub further : Reading → Reading → Reading
+further a b = pick (a .good) a (pick (b .good || ltb (a .place) (b .place)) b a)
 
 -- the same for a key
 abbrev pub noKey : List ℕ

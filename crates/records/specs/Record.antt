@@ -7,7 +7,7 @@ use lib.Dec.{eqb, ltb}
 use lib.ListN.{length, take, drop}
 use Rattle.laws.specs.Choice.{pick}
 use Rattle.refusals.specs.Numbers as numbers
-use Rattle.fields.specs.Fields.{isSlotNumber, isAlgorithm, rightsRefusal, storedOf}
+use Rattle.fields.specs.Fields.{isSlotNumber, isAlgorithm, rightsRefusal, storedOf, noFields}
 use Rattle.fields.specs.declared.Asked.{Asked}
 use Rattle.fields.specs.declared.Fields.{Fields}
 use Rattle.records.specs.declared.RecordRead.{RecordRead}
@@ -15,7 +15,7 @@ use Rattle.records.specs.declared.RecordWritten.{RecordWritten}
 use Rattle.records.specs.Text.{lf, recordText}
 use Rattle.records.specs.Form.{Form, done, Outcome, found, wrong, readAt, line, _>>=_}
 use Rattle.records.specs.Decimals.{decimal}
-use Rattle.records.specs.Words.{useForm}
+use Rattle.records.specs.Words.{useForm, algorithmForm}
 use Rattle.records.specs.Hexes.{keyForm}
 use Rattle.records.specs.Reading.{noKey}
 
@@ -30,7 +30,7 @@ unfoldable pub recordForm : Form Entry
 recordForm = do
   number ← line "number=" (decimal 1 32)
   version ← line "version=" (decimal 0 65535)
-  algorithm ← line "alg=TEA" (decimal 5 7)
+  algorithm ← line "alg=" algorithmForm
   usage ← line "use=" useForm
   side ← line "side=" (decimal 0 1)
   place ← line "place=" (decimal 0 79)
@@ -50,18 +50,15 @@ lineEnds (b ∷ s) = pick (eqb b lf) 1 0 + lineEnds s
 unfoldable pub lineOf : List ℕ → ℕ → ℕ
 lineOf s place = 1 + lineEnds (take place s)
 
-abbrev pub noFields : Fields
-noFields = record { version = 0; algorithm = 0; usage = 0; side = 0; place = 0 }
-
-abbrev pub accepted : Entry → ℕ → RecordRead
-accepted e used = record { refusal = numbers.done; line = 0; used = used; number = e .number; fields = e .fields; key = e .key }
+abbrev pub entryRead : Entry → ℕ → RecordRead
+entryRead e used = record { refusal = numbers.done; line = 0; used = used; number = e .number; fields = e .fields; key = e .key }
 
 abbrev pub refusedAt : List ℕ → ℕ → RecordRead
 refusedAt s place =
     record { refusal = numbers.recordTextBad; line = lineOf s place; used = 0; number = 0; fields = noFields; key = noKey }
 
 abbrev pub readAnswer : List ℕ → Outcome Entry → RecordRead
-readAnswer s (found e used) = accepted e used
+readAnswer s (found e used) = entryRead e used
 readAnswer s (wrong place) = refusedAt s place
 
 -- what reading answers

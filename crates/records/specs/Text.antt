@@ -10,6 +10,7 @@ use Prim.Native.String as string
 use lib.Dec.{eqb, ltb}
 use lib.ListN.{length, getD}
 use Rattle.laws.specs.Choice.{pick}
+use Rattle.algorithms.specs.Algorithm.{nameOf}
 use Rattle.fields.specs.Fields.{isSlotNumber, isAlgorithm, isUse, isSide, isPlace}
 use Rattle.fields.specs.declared.Fields.{Fields}
 
@@ -47,12 +48,12 @@ hexText (b ∷ bytes) = hexDigit (b / 16) ∷ hexDigit (b % 16) ∷ hexText byte
 abbrev pub lineText : String → List ℕ → List ℕ
 lineText name value = ascii name ++ (value ++ (lf ∷ []))
 
--- the seven lines; TEA5, TEA6 and TEA7 end with the algorithm's number
+-- the seven lines
 unfoldable pub recordText : ℕ → Fields → List ℕ → List ℕ
 recordText number f key =
     lineText "number=" (digits number)
     ++ (lineText "version=" (digits (f .version))
-    ++ (lineText "alg=TEA" (digits (f .algorithm))
+    ++ (lineText "alg=" (nameOf (f .algorithm))
     ++ (lineText "use=" (useWord (f .usage))
     ++ (lineText "side=" (digits (f .side))
     ++ (lineText "place=" (digits (f .place))

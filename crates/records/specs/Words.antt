@@ -1,20 +1,24 @@
--- The word of a use, ended by LF. Assumes nothing: these are definitions.
-use mathlib.Core.Bool.{Bool, _||_}
-use Prim.Native.Nat.{ℕ}
-use Prim.Native.String.{String}
-use lib.Dec.{eqb}
-use Rattle.laws.specs.Choice.{pick}
-use Rattle.records.specs.Text.{ascii}
-use Rattle.records.specs.Form.{Form, done, next, named}
+-- Words: those of the uses and the names of the algorithms, ended by LF. Assumes nothing: these are definitions.
+use mathlib.Core.List.{List}
+use Prim.Native.Nat.{ℕ, _+_}
+use Rattle.algorithms.specs.Algorithm.{nameOf}
+use Rattle.records.specs.Text.{ascii, useWord}
+use Rattle.records.specs.Form.{Form, done, named, either, _>>=_}
 
 -- a word for a value
-abbrev pub word : String → ℕ → Form ℕ
-word w v = named (ascii w) (done v)
+abbrev pub word : List ℕ → ℕ → Form ℕ
+word w v = named w (done v)
 
--- what follows the first letter: is it an S, is it an R
-abbrev pub restOfUse : Bool → Bool → Form ℕ
-restOfUse isS isR = pick isS (word "END\n" 1) (pick isR (word "ECV\n" 2) (word "OTH\n" 3))
+-- one of three words, for a value and the two that follow it; and LF
+unfoldable pub oneOf : ℕ → List ℕ → List ℕ → List ℕ → Form ℕ
+oneOf first a b c = do
+  v ← either (word a first) (either (word b (first + 1)) (word c (first + 2)))
+  word (ascii "\n") v
 
--- SEND, RECV or BOTH, by the first letter: 83 is S, 82 is R, 66 is B
+-- SEND, RECV, BOTH
 unfoldable pub useForm : Form ℕ
-useForm = next (λ b. eqb b 83 || (eqb b 82 || eqb b 66)) (λ b. restOfUse (eqb b 83) (eqb b 82))
+useForm = oneOf 1 (useWord 1) (useWord 2) (useWord 3)
+
+-- TEA5, TEA6, TEA7
+unfoldable pub algorithmForm : Form ℕ
+algorithmForm = oneOf 5 (nameOf 5) (nameOf 6) (nameOf 7)

@@ -1,5 +1,6 @@
 // Key records as text (document 01, "Key records"): reading one from the front of a text, and writing one to the front of a buffer.
 pub mod reading;
+pub mod uses;
 pub mod writing;
 
 use fields::Asked;
@@ -8,14 +9,16 @@ use fields::is_algorithm;
 use fields::is_slot_number;
 use fields::rights_refusal;
 use reading::good_to;
+use reading::read_algorithm;
 use reading::read_key;
 use reading::read_line;
 use reading::read_literal;
 use reading::read_use;
+use uses::use_word;
 use writing::digit_count;
 use writing::put_key;
 use writing::put_line;
-use writing::put_use;
+use writing::put_word_line;
 ghost use mathlib.Core.List.{List};
 ghost use mathlib.Core.Path.{_≡_};
 ghost use Prim.Native.Nat.{ℕ, _+_, _≤_};
@@ -78,7 +81,7 @@ pub fn read_record(text: &[u8]) -> RecordRead
 {
     let number = read_line(text, good_to(0, 0), b"number=", 1, 32);
     let version = read_line(text, number, b"version=", 0, 65535);
-    let algorithm = read_line(text, version, b"alg=TEA", 5, 7);
+    let algorithm = read_algorithm(text, read_literal(text, version, b"alg="));
     let usage = read_use(text, read_literal(text, algorithm, b"use="));
     let side = read_line(text, usage, b"side=", 0, 1);
     let place = read_line(text, side, b"place=", 0, 79);
@@ -145,8 +148,13 @@ fn put_record(buffer: &mut [u8], number: u64, asked: Asked, key: [u8; 24]) -> us
 {
     let version = put_line(buffer, 0, b"number=", number);
     let algorithm = put_line(buffer, version, b"version=", asked.version as u64);
-    let usage = put_line(buffer, algorithm, b"alg=TEA", asked.algorithm);
-    let side = put_use(buffer, usage, asked.usage);
+    let usage = put_word_line(
+        buffer,
+        algorithm,
+        b"alg=",
+        algorithms::name(asked.algorithm),
+    );
+    let side = put_word_line(buffer, usage, b"use=", use_word(asked.usage));
     let place = put_line(buffer, side, b"side=", asked.side);
     let last = put_line(buffer, place, b"place=", asked.place);
     put_key(buffer, last, key)

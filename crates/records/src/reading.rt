@@ -3,9 +3,11 @@ ghost use mathlib.Core.Path.{_≡_};
 ghost use Prim.Native.Nat.{_≤_};
 ghost use Rattle.records.specs.Form.{done, readAt, literal, named};
 ghost use Rattle.records.specs.Decimals.{mayBegin, mayFollow, after, decimal};
-ghost use Rattle.records.specs.Words.{useForm};
+ghost use Rattle.records.specs.Words.{oneOf, useForm, algorithmForm};
 ghost use Rattle.records.specs.Hexes.{hexOr, halfByte, byte, keyForm};
-ghost use Rattle.records.specs.Reading.{goodTo, wrongAt, noKeyAt, onward, answer, keyAnswer};
+ghost use Rattle.records.specs.Reading.{goodTo, wrongAt, noKeyAt, onward, answer, keyAnswer, further};
+use crate::uses::use_word;
+use algorithms::name;
 
 // What is read so far: the last value and the place after its text; or, once a byte is wrong, no value and the place of that byte.
 pub struct Reading {
@@ -166,29 +168,46 @@ fn read_word<'a>(s: &'a [u8], before: Reading, word: &'a [u8], value: u64) -> Re
     good_to(value, at)
 }
 
+// Of two readings from one place: the good one, or else the one that came further.
+fn further(a: Reading, b: Reading) -> Reading
+    ensures { λ r. ⌜ r ≡ further a b ⌝ }
+{
+    if a.good {
+        return a;
+    }
+    if b.good {
+        return b;
+    }
+    if a.place < b.place {
+        return b;
+    }
+    a
+}
+
+// One of three words, for a value and the two that follow it; and LF.
+fn read_one_of(s: &[u8], before: Reading, first: u64, a: [u8; 4], b: [u8; 4], c: [u8; 4]) -> Reading
+    requires { ⌜ first ≤ 5 ⌝ }
+    ensures { λ r. ⌜ r ≡ answer (onward before (oneOf first a b c) (now (s .entry))) ⌝ }
+{
+    let one = read_word(s, before, &a, first);
+    let two = read_word(s, before, &b, first + 1);
+    let three = read_word(s, before, &c, first + 2);
+    let word = further(one, further(two, three));
+    read_word(s, word, b"\n", word.value)
+}
+
 // SEND, RECV or BOTH, ended by LF.
 pub fn read_use(s: &[u8], before: Reading) -> Reading
     ensures { λ r. ⌜ r ≡ answer (onward before useForm (now (s .entry))) ⌝ }
 {
-    let at = before.place;
-    if !before.good {
-        return wrong_at(at);
-    }
-    if s.len() <= at {
-        return wrong_at(at);
-    }
-    let letter = s[at];
-    let rest = good_to(0, at + 1);
-    if letter == b'S' {
-        return read_word(s, rest, b"END\n", 1);
-    }
-    if letter == b'R' {
-        return read_word(s, rest, b"ECV\n", 2);
-    }
-    if letter == b'B' {
-        return read_word(s, rest, b"OTH\n", 3);
-    }
-    wrong_at(at)
+    read_one_of(s, before, 1, use_word(1), use_word(2), use_word(3))
+}
+
+// TEA5, TEA6 or TEA7, ended by LF.
+pub fn read_algorithm(s: &[u8], before: Reading) -> Reading
+    ensures { λ r. ⌜ r ≡ answer (onward before algorithmForm (now (s .entry))) ⌝ }
+{
+    read_one_of(s, before, 5, name(5), name(6), name(7))
 }
 
 // The value of a lower-case hex digit, or 16.

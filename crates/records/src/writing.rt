@@ -3,7 +3,7 @@ ghost use mathlib.Core.Path.{_≡_};
 ghost use mathlib.Core.List.{[], _∷_, _++_};
 ghost use Prim.Native.Nat.{_<_};
 ghost use lib.ListN.{length};
-ghost use Rattle.records.specs.Text.{lf, digits, useWord, hexDigit, hexText, lineText};
+ghost use Rattle.records.specs.Text.{lf, digits, hexDigit, hexText, lineText};
 ghost use Rattle.records.specs.Writing.{Room, Put};
 
 // The given bytes.
@@ -60,27 +60,13 @@ pub fn put_line<'a>(buffer: &'a mut [u8], at: usize, name: &'a [u8], n: u64) -> 
     put_bytes(buffer, end, b"\n")
 }
 
-// The word of a use.
-pub fn put_word(buffer: &mut [u8], at: usize, usage: u64) -> usize
-    requires { ⌜ Room (now buffer) at (useWord usage) ⌝ }
-    ensures { λ r. ⌜ Put (now (buffer .entry)) at (useWord usage) (now (buffer .exit)) r ⌝ }
+// A line with a word.
+pub fn put_word_line<'a>(buffer: &'a mut [u8], at: usize, name: &'a [u8], word: [u8; 4]) -> usize
+    requires { ⌜ Room (now buffer) at (now name ++ (word ++ (lf ∷ []))) ⌝ }
+    ensures { λ r. ⌜ Put (now (buffer .entry)) at (now (name .entry) ++ (word ++ (lf ∷ []))) (now (buffer .exit)) r ⌝ }
 {
-    if usage == 1 {
-        return put_bytes(buffer, at, b"SEND");
-    }
-    if usage == 2 {
-        return put_bytes(buffer, at, b"RECV");
-    }
-    put_bytes(buffer, at, b"BOTH")
-}
-
-// The line of a use.
-pub fn put_use(buffer: &mut [u8], at: usize, usage: u64) -> usize
-    requires { ⌜ Room (now buffer) at (lineText "use=" (useWord usage)) ⌝ }
-    ensures { λ r. ⌜ Put (now (buffer .entry)) at (lineText "use=" (useWord usage)) (now (buffer .exit)) r ⌝ }
-{
-    let value = put_bytes(buffer, at, b"use=");
-    let end = put_word(buffer, value, usage);
+    let value = put_bytes(buffer, at, name);
+    let end = put_bytes(buffer, value, &word);
     put_bytes(buffer, end, b"\n")
 }
 

@@ -14,14 +14,15 @@ use borrow.Author.Tests.{eq-eqb, ne-eqb}
 use Rattle.laws.specs.Choice.{pick}
 use Rattle.laws.proofs.Cases.{lt-or-le}
 use Rattle.refusals.specs.Numbers.{done}
+use Rattle.algorithms.specs.Algorithm.{nameOf}
 use Rattle.fields.specs.Fields.{allInRange, askedOf}
 use Rattle.fields.specs.declared.Fields.{Fields}
-use Rattle.fields.proofs.Ranges.{algorithm-high, side-high, place-high}
+use Rattle.fields.proofs.Ranges.{side-high, place-high}
 use Rattle.slots.specs.declared.Slot.{Slot}
 use Rattle.slots.specs.Slots.{nil, isFilled}
 use Rattle.records.specs.Text.{ascii, lf, digits, useWord, lineText}
 use Rattle.records.proofs.Puts.{length-one, length-ten}
-use Rattle.records.proofs.Lengths.{use-length}
+use Rattle.records.proofs.Lengths.{name-length, use-length}
 use Rattle.sheet.specs.declared.loading.Loaded.{Loaded}
 use Rattle.sheet.specs.Sheet.{item, slotLine, slotText, slotLines, filledCount, tableText, refusalText, loadedText, longestLine}
 
@@ -58,19 +59,19 @@ line-short number f n v r =
     let sixth = lineText " place=" (digits (f .place)) in
     let fifth = item " side=" (digits (f .side)) ++ sixth in
     let fourth = item " use=" (useWord (f .usage)) ++ fifth in
-    let third = item " alg=TEA" (digits (f .algorithm)) ++ fourth in
+    let third = item " alg=" (nameOf (f .algorithm)) ++ fourth in
     let second = item " version=" (digits (f .version)) ++ third in
     omega (
       arith,
       item-length "number=" (digits number) second,
       item-length " version=" (digits (f .version)) third,
-      item-length " alg=TEA" (digits (f .algorithm)) fourth,
+      item-length " alg=" (nameOf (f .algorithm)) fourth,
       item-length " use=" (useWord (f .usage)) fifth,
       item-length " side=" (digits (f .side)) sixth,
       line-length " place=" (digits (f .place)),
       digits-fit 1 number (omega arith),
       digits-fit 4 (f .version) (omega arith),
-      length-one (f .algorithm) (omega (arith, algorithm-high (askedOf f) r)),
+      name-length (f .algorithm),
       use-length (f .usage),
       length-one (f .side) (omega (arith, side-high (askedOf f) r)),
       digits-fit 1 (f .place) (omega (arith, place-high (askedOf f) r)),

@@ -7,6 +7,7 @@ use lib.Dec.{eqb, ltb}
 use lib.ListN.{length, drop}
 use Rattle.laws.specs.Choice.{pick}
 use Rattle.refusals.specs.Numbers.{done}
+use Rattle.algorithms.specs.Algorithm.{nameOf}
 use Rattle.fields.specs.declared.Fields.{Fields}
 use Rattle.slots.specs.declared.Slot.{Slot}
 use Rattle.fields.specs.Fields.{askedOf}
@@ -49,7 +50,7 @@ unfoldable pub slotLine : ℕ → Fields → List ℕ
 slotLine number f =
     item "number=" (digits number)
     ++ (item " version=" (digits (f .version))
-    ++ (item " alg=TEA" (digits (f .algorithm))
+    ++ (item " alg=" (nameOf (f .algorithm))
     ++ (item " use=" (useWord (f .usage))
     ++ (item " side=" (digits (f .side))
     ++ lineText " place=" (digits (f .place))))))

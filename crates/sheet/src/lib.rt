@@ -11,8 +11,7 @@ ghost use Rattle.sheet.specs.Sheet.{listedLength, listedBuffer};
 pub const ROOM: usize = 2048;
 
 // The listing of a sheet, at the front of the buffer, and its length. The bytes after it stay. A smaller buffer stays as it is, with length 0.
-#[no_mangle]
-pub extern "C" fn card_slotlist(sheet: &[u8], buffer: &mut [u8]) -> usize
+pub fn list_sheet(sheet: &[u8], buffer: &mut [u8]) -> usize
     ensures { λ r. ⌜ (r ≡ listedLength (now (sheet .entry)) (now (buffer .entry)))
         × (now (buffer .exit) ≡ listedBuffer (now (sheet .entry)) (now (buffer .entry))) ⌝ }
 {

@@ -1,10 +1,10 @@
 // Writers of a listing's parts. Each puts a text into the buffer from a place on, and answers with the place at which it ends.
 use crate::loading::Loaded;
 use fields::Fields;
+use records::uses::use_word;
 use records::writing::put_bytes;
 use records::writing::put_digits;
 use records::writing::put_line;
-use records::writing::put_word;
 use slots::Slot;
 use slots::is_filled;
 ghost use mathlib.Core.Bool.{true};
@@ -13,9 +13,9 @@ ghost use mathlib.Core.Path.{_≡_};
 ghost use Prim.Native.Nat.{_+_, _*_, _≤_};
 ghost use lib.ListN.{length};
 ghost use Rattle.fields.specs.Fields.{allInRange, askedOf};
-ghost use Rattle.records.specs.Text.{digits, useWord};
+ghost use Rattle.records.specs.Text.{digits};
 ghost use Rattle.records.specs.Writing.{Room, Put};
-ghost use Rattle.sheet.specs.Sheet.{item, slotLine, slotText, slotLines, filledCount, tableText, refusalText, loadedText, longestLine, room};
+ghost use Rattle.sheet.specs.Sheet.{slotLine, slotText, slotLines, filledCount, tableText, refusalText, loadedText, longestLine, room};
 
 // A name and a number.
 fn put_item<'a>(buffer: &'a mut [u8], at: usize, name: &'a [u8], n: u64) -> usize
@@ -26,12 +26,13 @@ fn put_item<'a>(buffer: &'a mut [u8], at: usize, name: &'a [u8], n: u64) -> usiz
     put_digits(buffer, value, n)
 }
 
-fn put_use(buffer: &mut [u8], at: usize, usage: u8) -> usize
-    requires { ⌜ Room (now buffer) at (item " use=" (useWord usage)) ⌝ }
-    ensures { λ r. ⌜ Put (now (buffer .entry)) at (item " use=" (useWord usage)) (now (buffer .exit)) r ⌝ }
+// A name and a word.
+fn put_word_item<'a>(buffer: &'a mut [u8], at: usize, name: &'a [u8], word: [u8; 4]) -> usize
+    requires { ⌜ Room (now buffer) at (now name ++ word) ⌝ }
+    ensures { λ r. ⌜ Put (now (buffer .entry)) at (now (name .entry) ++ word) (now (buffer .exit)) r ⌝ }
 {
-    let word = put_bytes(buffer, at, b" use=");
-    put_word(buffer, word, usage as u64)
+    let value = put_bytes(buffer, at, name);
+    put_bytes(buffer, value, &word)
 }
 
 // The line of a filled slot, for a buffer that has room for the longest.
@@ -42,8 +43,13 @@ fn put_slot_line(buffer: &mut [u8], at: usize, number: u64, f: Fields) -> usize
     let value = f.version as u64;
     let version = put_item(buffer, at, b"number=", number);
     let algorithm = put_item(buffer, version, b" version=", value);
-    let usage = put_item(buffer, algorithm, b" alg=TEA", f.algorithm as u64);
-    let side = put_use(buffer, usage, f.usage);
+    let usage = put_word_item(
+        buffer,
+        algorithm,
+        b" alg=",
+        algorithms::name(f.algorithm as u64),
+    );
+    let side = put_word_item(buffer, usage, b" use=", use_word(f.usage as u64));
     let place = put_item(buffer, side, b" side=", f.side as u64);
     put_line(buffer, place, b" place=", f.place as u64)
 }

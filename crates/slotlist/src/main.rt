@@ -6,6 +6,6 @@ fn main() {
     let mut sheet = [0u8; 4096];
     let n = io::read_full(STDIN_FILENO, &mut sheet);
     let mut listing = [0u8; sheet::ROOM];
-    let length = sheet::card_slotlist(&sheet[..n], &mut listing);
+    let length = sheet::list_sheet(&sheet[..n], &mut listing);
     io::write_all(STDOUT_FILENO, &listing[..length]);
 }

@@ -7,10 +7,8 @@ use lib.Dec.{eqb}
 use lib.ListN.{getD, set, replicate}
 use Rattle.fields.specs.declared.Fields.{Fields}
 use Rattle.fields.specs.Fields.{allInRange, askedOf}
+pub use Rattle.fields.specs.Fields.{noFields}
 use Rattle.slots.specs.declared.Slot.{Slot}
-
-abbrev pub noFields : Fields
-noFields = record { version = 0; algorithm = 0; usage = 0; side = 0; place = 0 }
 
 -- zero in every field
 abbrev pub isNoFields : Fields → Bool

@@ -1,2 +1,1 @@
 pub mod MixingRule
-pub mod Rules

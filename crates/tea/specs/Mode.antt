@@ -4,7 +4,7 @@ use Prim.Native.Nat.{ℕ, _+_, _*_, _/_, _%_}
 use lib.ListN.{getD}
 use Rattle.laws.specs.Lists.{tabulate}
 use Rattle.tea.specs.declared.mode.Mode.{Mode}
-use Rattle.tea.specs.Algorithm.{combining, digitOf}
+use Rattle.algorithms.specs.Algorithm.{combining, digitOf}
 use Rattle.tea.specs.Mixing.{mixedValue}
 
 -- f of a high half and a low half

@@ -2,9 +2,9 @@
 ghost use mathlib.Core.Path.{_≡_};
 ghost use Prim.Native.Nat.{_+_, _*_, _/_, _%_};
 ghost use Rattle.tea.specs.Mode.{combined, modeBy, modeOf};
-use crate::algorithms::combining_table;
-use crate::algorithms::digit;
 use crate::mixing::mixed_value;
+use algorithms::combining_table;
+use algorithms::digit;
 
 // What the blocks of one keystream are made of: CKM, IVM and the digit of the algorithm.
 pub struct Mode {

@@ -1,4 +1,4 @@
-//! The sheet's static library against the second program. Usage: sheets SEED COUNT.
+//! The card's listings of sheets against the second program. Usage: sheets SEED COUNT.
 
 mod face;
 mod making;

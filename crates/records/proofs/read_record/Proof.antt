@@ -17,20 +17,20 @@ use Rattle.records.proofs.read_record.Statement.{statement}
 use Rattle.records.proofs.read_record.Tie as tie
 
 -- the places of the lines, from that of the key
-abbrev place-line : tie.After-read-key → tie.After-read-line5
+abbrev place-line : tie.After-read-key → tie.After-read-line4
 place-line c = c .before .before .before
 
-abbrev side-line : tie.After-read-key → tie.After-read-line4
+abbrev side-line : tie.After-read-key → tie.After-read-line3
 side-line c = place-line c .before .before
 
 abbrev use-line : tie.After-read-key → tie.After-read-use
 use-line c = side-line c .before .before
 
-abbrev algorithm-line : tie.After-read-key → tie.After-read-line3
+abbrev algorithm-line : tie.After-read-key → tie.After-read-algorithm
 algorithm-line c = use-line c .before .before .before
 
 abbrev version-line : tie.After-read-key → tie.After-read-line2
-version-line c = algorithm-line c .before .before
+version-line c = algorithm-line c .before .before .before
 
 abbrev number-line : tie.After-read-key → tie.After-read-line
 number-line c = version-line c .before .before
@@ -46,10 +46,10 @@ given c =
       fields =
           record {
             version = version-line c .read-line2 .result .value;
-            algorithm = algorithm-line c .read-line3 .result .value;
+            algorithm = algorithm-line c .read-algorithm .result .value;
             usage = use-line c .read-use .result .value;
-            side = side-line c .read-line4 .result .value;
-            place = place-line c .read-line5 .result .value;
+            side = side-line c .read-line3 .result .value;
+            place = place-line c .read-line4 .result .value;
           };
       key = c .read-key .result .key;
     }
@@ -60,12 +60,13 @@ whole c =
     lines-read (text c)
     (number-line c .read-line .ensures ∙ ap (λ b. answer (onward b (line "number=" (decimal 1 32)) (text c))) (number-line c .before .before .good-to .ensures))
     (version-line c .read-line2 .ensures)
-    (algorithm-line c .read-line3 .ensures)
-    (use-line c .before .read-literal .ensures)
+    (algorithm-line c .before .read-literal .ensures)
+    (algorithm-line c .read-algorithm .ensures)
+    (use-line c .before .read-literal2 .ensures)
     (use-line c .read-use .ensures)
-    (side-line c .read-line4 .ensures)
-    (place-line c .read-line5 .ensures)
-    (c .before .read-literal2 .ensures)
+    (side-line c .read-line3 .ensures)
+    (place-line c .read-line4 .ensures)
+    (c .before .read-literal3 .ensures)
     (c .read-key .ensures)
 
 is-wrong : (c : tie.After-read-key) → not (c .read-key .result .good) ≡ true → readAt recordForm (text c) 0 ≡ wrong (c .read-key .result .place)
@@ -117,6 +118,7 @@ read-record-spec =
     (λ c. search needs)
     (λ c κs. search needs)
     (λ c. search needs)
+    (λ c κs. search needs)
     (λ c κs. search needs)
     (λ c. search needs)
     (λ c κs. search needs)

@@ -3,7 +3,7 @@ use mathlib.Core.Path.{ap}
 use borrow.Author.Needs.{needs}
 use Rattle.refusals.specs.Numbers.{recordTextBad}
 use Rattle.records.specs.Reading.{noKey}
-use Rattle.records.specs.Record.{noFields}
+use Rattle.fields.specs.Fields.{noFields}
 use Rattle.records.proofs.refused_at.Statement.{statement}
 use Rattle.records.proofs.refused_at.Tie as tie
 

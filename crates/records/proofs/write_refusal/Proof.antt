@@ -62,8 +62,7 @@ only-room c key size =
     let last = c .before .before in
     let algorithm = last .before .before in
     let slot = algorithm .before .before in
-    let known = sym (algorithm .before .is-algorithm .ensures) ∙ not-false _ (algorithm .if2 .left) in
-    let e = c .text-length .ensures ∙ sym (text-length _ (storedOf (start last .args .asked)) key known (rights last .side) size) in
+    let e = c .text-length .ensures ∙ sym (text-length _ (storedOf (start last .args .asked)) key (rights last .side) size) in
     rw (
       ap not (sym (slot .before .is-slot-number .ensures)) ∙ slot .if1 .left,
       ap not (sym (algorithm .before .is-algorithm .ensures)) ∙ algorithm .if2 .left,

@@ -7,10 +7,10 @@ use Rattle.slotlist.proofs.main.Statement.{statement}
 use Rattle.slotlist.proofs.main.Tie as tie
 
 array-share-prefix-listing : tie.Need-array-share-prefix-listing
-array-share-prefix-listing c = listed-within _ _ (c .before .card-slotlist .ensures)
+array-share-prefix-listing c = listed-within _ _ (c .before .list-sheet .ensures)
 
 slice-aggregate-write-all : tie.Need-slice-aggregate-write-all
-slice-aggregate-write-all c = sym (length-take-le _ _ (listed-within _ _ (c .before .before .card-slotlist .ensures)))
+slice-aggregate-write-all c = sym (length-take-le _ _ (listed-within _ _ (c .before .before .list-sheet .ensures)))
 
 pub main-spec : {M : Type 1} → statement M
 main-spec =

@@ -1,11 +1,12 @@
 -- `listing::put_slot_line`: item after item, in the room of the longest line. Assumes nothing.
+use mathlib.Core.Path.{sym, ap}
 use Prim.Native.Nat.{_≤_}
 use native.Mathlib.Omega.{arith}
 use borrow.Author.Needs.{needs}
 use lib.ListN.{length}
 use Rattle.records.specs.Writing.{Room}
-use Rattle.records.proofs.Puts.{put-length}
-use Rattle.sheet.specs.Sheet.{slotLine, longestLine}
+use Rattle.records.proofs.Puts.{put-as, room-as, put-length}
+use Rattle.sheet.specs.Sheet.{item, slotLine, longestLine}
 use Rattle.sheet.proofs.Left.{left-all, left-room, left-next, left-last, next-room}
 use Rattle.sheet.proofs.Lines.{line-short}
 use Rattle.sheet.proofs.listing.put_slot_line.Statement.{statement}
@@ -18,16 +19,16 @@ start c = c .before .before .before
 abbrev number : tie.After-put-item2 → tie.After-put-item
 number c = c .before .before .before .before .before
 
-abbrev version : tie.After-put-item3 → tie.After-put-item2
-version c = c .before .before .before .before .before .before
+abbrev version : tie.After-put-word-item → tie.After-put-item2
+version c = c .before .before .before .before .before .before .before
 
-abbrev algorithm : tie.After-put-use → tie.After-put-item3
-algorithm c = c .before .before .before .before
+abbrev algorithm : tie.After-put-word-item2 → tie.After-put-word-item
+algorithm c = c .before .before .before .before .before .before .before
 
-abbrev usage : tie.After-put-item4 → tie.After-put-use
+abbrev usage : tie.After-put-item3 → tie.After-put-word-item2
 usage c = c .before .before .before .before .before .before
 
-abbrev side : tie.After-put-line → tie.After-put-item4
+abbrev side : tie.After-put-line → tie.After-put-item3
 side c = c .before .before .before .before .before .before
 
 short : (c : tie.After-struct-known) → length (slotLine (c .before .before .args .number) (c .before .before .args .f)) ≤ longestLine
@@ -46,30 +47,34 @@ put-item-requires-2 c κs =
     let i1 = c .before .before .before .before in
     next-room _ (whole (start i1)) (left-next left-all (i1 .put-item .ensures))
 
+put-word-item-requires : tie.Need-put-word-item-requires
+unfolding slotLine
+put-word-item-requires c κs =
+    let i2 = c .before .before .before .before .before .before in
+    let i1 = number i2 in
+    room-as (sym (ap (item " alg=") (c .name .ensures)))
+    (next-room _ (whole (start i1)) (left-next (left-next left-all (i1 .put-item .ensures)) (i2 .put-item2 .ensures)))
+
+put-word-item-requires-2 : tie.Need-put-word-item-requires-2
+unfolding slotLine
+put-word-item-requires-2 c κs =
+    let i3 = c .before .before .before .before .before .before in
+    let i2 = version i3 in
+    let i1 = number i2 in
+    let p3 = put-as (ap (item " alg=") (i3 .before .name .ensures)) (i3 .put-word-item .ensures) in
+    room-as (sym (ap (item " use=") (c .use-word .ensures)))
+    (next-room _ (whole (start i1)) (left-next (left-next (left-next left-all (i1 .put-item .ensures)) (i2 .put-item2 .ensures)) p3))
+
 put-item-requires-3 : tie.Need-put-item-requires-3
 unfolding slotLine
 put-item-requires-3 c κs =
-    let i2 = c .before .before .before .before .before in
-    let i1 = number i2 in
-    next-room _ (whole (start i1)) (left-next (left-next left-all (i1 .put-item .ensures)) (i2 .put-item2 .ensures))
-
-put-use-requires : tie.Need-put-use-requires
-unfolding slotLine
-put-use-requires c κs =
-    let i3 = c .before .before .before in
-    let i2 = version i3 in
-    let i1 = number i2 in
-    next-room _ (whole (start i1)) (left-next (left-next (left-next left-all (i1 .put-item .ensures)) (i2 .put-item2 .ensures)) (i3 .put-item3 .ensures))
-
-put-item-requires-4 : tie.Need-put-item-requires-4
-unfolding slotLine
-put-item-requires-4 c κs =
     let i4 = c .before .before .before .before .before in
     let i3 = algorithm i4 in
     let i2 = version i3 in
     let i1 = number i2 in
-    next-room _ (whole (start i1))
-    (left-next (left-next (left-next (left-next left-all (i1 .put-item .ensures)) (i2 .put-item2 .ensures)) (i3 .put-item3 .ensures)) (i4 .put-use .ensures))
+    let p3 = put-as (ap (item " alg=") (i3 .before .name .ensures)) (i3 .put-word-item .ensures) in
+    let p4 = put-as (ap (item " use=") (i4 .before .use-word .ensures)) (i4 .put-word-item2 .ensures) in
+    next-room _ (whole (start i1)) (left-next (left-next (left-next (left-next left-all (i1 .put-item .ensures)) (i2 .put-item2 .ensures)) p3) p4)
 
 put-line-requires : tie.Need-put-line-requires
 unfolding slotLine
@@ -79,8 +84,10 @@ put-line-requires c κs =
     let i3 = algorithm i4 in
     let i2 = version i3 in
     let i1 = number i2 in
+    let p3 = put-as (ap (item " alg=") (i3 .before .name .ensures)) (i3 .put-word-item .ensures) in
+    let p4 = put-as (ap (item " use=") (i4 .before .use-word .ensures)) (i4 .put-word-item2 .ensures) in
     left-room (whole (start i1))
-    (left-next (left-next (left-next (left-next (left-next left-all (i1 .put-item .ensures)) (i2 .put-item2 .ensures)) (i3 .put-item3 .ensures)) (i4 .put-use .ensures)) (i5 .put-item4 .ensures))
+    (left-next (left-next (left-next (left-next (left-next left-all (i1 .put-item .ensures)) (i2 .put-item2 .ensures)) p3) p4) (i5 .put-item3 .ensures))
 
 returns : tie.Need-returns
 unfolding slotLine
@@ -91,9 +98,11 @@ returns c =
     let i3 = algorithm i4 in
     let i2 = version i3 in
     let i1 = number i2 in
+    let p3 = put-as (ap (item " alg=") (i3 .before .name .ensures)) (i3 .put-word-item .ensures) in
+    let p4 = put-as (ap (item " use=") (i4 .before .use-word .ensures)) (i4 .put-word-item2 .ensures) in
     let put =
     left-last
-    (left-next (left-next (left-next (left-next (left-next left-all (i1 .put-item .ensures)) (i2 .put-item2 .ensures)) (i3 .put-item3 .ensures)) (i4 .put-use .ensures)) (i5 .put-item4 .ensures))
+    (left-next (left-next (left-next (left-next (left-next left-all (i1 .put-item .ensures)) (i2 .put-item2 .ensures)) p3) p4) (i5 .put-item3 .ensures))
     (i6 .put-line .ensures) in
     (omega (arith, put .ends, short (start i1)), put)
 
@@ -108,11 +117,15 @@ put-slot-line-spec =
     put-item-requires-2
     (λ c. search needs)
     (λ c. search needs)
+    (λ c κs. search needs)
+    put-word-item-requires
+    (λ c. search needs)
+    (λ c. search needs)
+    (λ c κs. search needs)
+    put-word-item-requires-2
+    (λ c. search needs)
+    (λ c. search needs)
     put-item-requires-3
-    put-use-requires
-    (λ c. search needs)
-    (λ c. search needs)
-    put-item-requires-4
     (λ c. search needs)
     (λ c. search needs)
     put-line-requires

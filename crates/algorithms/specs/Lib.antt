@@ -1,0 +1,2 @@
+pub mod Combining
+pub mod Algorithm

@@ -1,0 +1,81 @@
+-- Demand 2, of the calls for C over the definitions that their contracts cite: inside the span each bit is itself xor its keystream bit, bits
+-- beside the span never move, and the same call again brings the buffer back; the bench call gives the keystream itself. That a record read
+-- and written again is the same text is `read-then-written` (crates/records/proofs/Promises.antt). Assumes nothing.
+use mathlib.Core.Path.{_≡_, refl, sym, ap, subst, _∙_}
+use mathlib.Core.Bool.{Bool, not}
+use mathlib.Core.List.{List}
+use Prim.Native.Nat.{ℕ, _+_, _<_, _≤_}
+use native.Mathlib.Nat.{zero-add}
+use native.Mathlib.Omega.{arith}
+use lib.Bits.{bitXor}
+use lib.Dec.{eqb}
+use lib.ListN.{length, getD}
+use borrow.Author.Tests.{eq-eqb}
+use Rattle.laws.specs.Bits.{bitAt}
+use Rattle.laws.proofs.Cases.{pick-cases, neither}
+use Rattle.refusals.specs.Numbers.{done}
+use Rattle.span.specs.Span.{xored}
+use Rattle.span.proofs.Within.{Beside}
+use Rattle.span.proofs.Laws.{xored-inside, xored-outside, written-inside, written-outside}
+use Rattle.span.proofs.Stream.{stream-lt}
+use Rattle.keystream.specs.Stream.{keystream}
+use Rattle.slots.specs.declared.Slot.{Slot}
+use Rattle.slots.specs.Slots.{hasBad, slotAt}
+use Rattle.card.specs.Bench.{benchRefusal, benched}
+use Rattle.card.specs.Table.{isTable, isNoTable, trafficRefusalIn, traffickedIn}
+use Rattle.card.specs.Traffic.{slotStream, trafficRefusalOf, traffickedOf}
+use Rattle.card.proofs.Laws.{traffic-accepted, traffic-twice}
+use Rattle.card.proofs.Passed.{keyed-passed, traffic-passed-of}
+
+module _ (t : List Slot) (direction number : ℕ) (iv buf : List ℕ) (start n skip : ℕ) where
+  -- an accepted call has a table, so that what is known of a table by value is known of the lent one
+  on-table : (P : Bool → Type 0) → trafficRefusalIn t direction number iv buf start n skip ≡ done → P (hasBad t) → P (isNoTable t)
+  on-table P e p =
+      let good = traffic-passed-of (isNoTable t) (slotAt t number) direction number iv buf start n skip e .allowed .good in
+      subst P (neither (not (isTable t)) (hasBad t) good .1 ∙ sym good) p
+
+  -- "ciphered bits equal ETSI TS 104 053-2 bit by bit": bit start + i of the buffer
+  pub traffic-inside : trafficRefusalIn t direction number iv buf start n skip ≡ done → (i : ℕ) → i < n
+      → bitAt (traffickedIn t direction number iv buf start n skip) (start + i)
+      ≡ bitXor (bitAt buf (start + i)) (keystream (slotAt t number .fields .algorithm) (slotAt t number .key) iv (skip + i))
+  traffic-inside e i h =
+      let k = slotStream (slotAt t number) iv in
+      let inside = traffic-passed-of (isNoTable t) (slotAt t number) direction number iv buf start n skip e .span .inside in
+      ap (λ (l : List ℕ). bitAt l (start + i))
+      (on-table (λ b. trafficRefusalOf b (slotAt t number) direction number iv buf start n skip ≡ done
+      → traffickedOf b (slotAt t number) direction number iv buf start n skip ≡ xored buf k start skip n) e
+      (traffic-accepted t direction number iv buf start n skip) e)
+      ∙ xored-inside k (stream-lt _) buf start skip n i h (omega arith)
+
+  -- "bits beside it never move": whatever the call answers
+  pub traffic-beside : (j : ℕ) → Beside start n j → bitAt (traffickedIn t direction number iv buf start n skip) j ≡ bitAt buf j
+  unfolding traffickedOf
+  traffic-beside j beside =
+      pick-cases (λ (l : List ℕ). bitAt l j ≡ bitAt buf j) (eqb (trafficRefusalIn t direction number iv buf start n skip) done)
+      (λ _. xored-outside (slotStream (slotAt t number) iv) (stream-lt _) buf start skip n j beside)
+      (λ _. refl)
+
+  -- "the same span ciphered again, with all else alike, comes back"
+  pub traffic-again : ((q : ℕ) → getD buf q 0 < 256) → trafficRefusalIn t direction number iv buf start n skip ≡ done
+      → traffickedIn t direction number iv (traffickedIn t direction number iv buf start n skip) start n skip ≡ buf
+  traffic-again bytes e =
+      on-table (λ b. trafficRefusalOf b (slotAt t number) direction number iv buf start n skip ≡ done
+      → traffickedOf b (slotAt t number) direction number iv (traffickedOf b (slotAt t number) direction number iv buf start n skip) start n skip ≡ buf) e
+      (traffic-twice t direction number iv buf start n skip bytes) e
+
+module _ (algorithm : ℕ) (key iv buf : List ℕ) (n : ℕ) where
+  -- "keystream": bit i of the buffer
+  pub bench-inside : benchRefusal algorithm key iv buf n ≡ done → (i : ℕ) → i < n → bitAt (benched algorithm key iv buf n) i ≡ keystream algorithm key iv i
+  unfolding benched
+  bench-inside e i h =
+      let inside = keyed-passed algorithm (length key) (length iv) (length buf) 0 n 0 e .span .inside in
+      let z : 0 + i ≡ i = zero-add i in
+      rw (eq-eqb (benchRefusal algorithm key iv buf n) done e)
+      (simp z at (written-inside (keystream algorithm key iv) (stream-lt _) buf 0 0 n i h (omega arith)))
+
+  pub bench-beside : (j : ℕ) → n ≤ j → bitAt (benched algorithm key iv buf n) j ≡ bitAt buf j
+  unfolding benched
+  bench-beside j h =
+      pick-cases (λ (l : List ℕ). bitAt l j ≡ bitAt buf j) (eqb (benchRefusal algorithm key iv buf n) done)
+      (λ _. written-outside (keystream algorithm key iv) (stream-lt _) buf 0 0 n j (λ _. omega arith))
+      (λ _. refl)
