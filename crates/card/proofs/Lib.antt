@@ -1,3 +1,4 @@
+pub mod Answers
 pub mod Copies
 pub mod Passed
 pub mod Laws

@@ -7,6 +7,7 @@ use borrow.Author.Tests.{ltb-false, eqb-true, not-false}
 use lib.Dec.{eqb, ltb, lit<}
 use lib.ListN.{length}
 use Rattle.laws.proofs.Cases.{neither, unpicked, unpicked-own}
+use Rattle.span.specs.Span.{longestBuffer, longestStream}
 use Rattle.fields.specs.Fields.{isAlgorithm}
 use Rattle.card.specs.Span.{spanRefusal}
 use Rattle.slots.specs.declared.Slot.{Slot}
@@ -18,19 +19,19 @@ use Rattle.card.specs.Bench.{keyedRefusal}
 use Rattle.card.specs.Traffic.{onSide, useRefusalOf, trafficRefusalOf, trafficRefusal}
 
 pub record SpanPassed (size start n skip : ℕ) : Type 0 where
-  pub small : size ≤ 8192
-  pub streamed : skip + n ≤ 8288
+  pub small : size ≤ longestBuffer
+  pub streamed : skip + n ≤ longestStream
   pub inside : start + n ≤ 8 * size
 
 pub span-passed : (size start n skip : ℕ) → spanRefusal size start n skip ≡ 0 → SpanPassed size start n skip
 unfolding spanRefusal
 span-passed size start n skip e =
-    let five = unpicked (ltb 8192 size) 5 _ (lit< tt) e in
-    let four = unpicked (eqb n 0 || ltb 8288 (skip + n)) 4 _ (lit< tt) (five .1) in
+    let five = unpicked (ltb longestBuffer size) 5 _ (lit< tt) e in
+    let four = unpicked (eqb n 0 || ltb longestStream (skip + n)) 4 _ (lit< tt) (five .1) in
     let six = unpicked (ltb (8 * size) (start + n)) 6 _ (lit< tt) (four .1) in
     record {
-      small = ltb-false 8192 size (five .0);
-      streamed = ltb-false 8288 (skip + n) (neither (eqb n 0) (ltb 8288 (skip + n)) (four .0) .1);
+      small = ltb-false longestBuffer size (five .0);
+      streamed = ltb-false longestStream (skip + n) (neither (eqb n 0) (ltb longestStream (skip + n)) (four .0) .1);
       inside = ltb-false (8 * size) (start + n) (six .0);
     }
 

@@ -9,7 +9,7 @@ use Rattle.refusals.specs.Numbers.{done, algorithmUnknown, benchKeyNot24, ivNot
 use Rattle.fields.specs.Fields.{isAlgorithm}
 use Rattle.span.specs.Span.{written, blocksUsed}
 use Rattle.keystream.specs.Stream.{keystream}
-use Rattle.card.specs.Span.{spanRefusal}
+use Rattle.card.specs.Span.{spanRefusal, Ciphered, cipheredAs}
 
 -- keystream under a key that comes with the call, in the order 1, 2, 3, 5, 4, 6: by the algorithm, the bytes that key, IV and buffer have,
 -- and the run of bits
@@ -32,3 +32,8 @@ benched algorithm key iv buf n =
 -- the blocks reported
 unfoldable pub benchBlocks : ℕ → List ℕ → List ℕ → List ℕ → ℕ → ℕ
 benchBlocks algorithm key iv buf n = pick (eqb (benchRefusal algorithm key iv buf n) done) (blocksUsed 0 n) 0
+
+-- all that the call answers
+abbrev pub benchAnswer : ℕ → List ℕ → List ℕ → List ℕ → ℕ → Ciphered
+benchAnswer algorithm key iv buf n =
+    cipheredAs (benchRefusal algorithm key iv buf n) (benched algorithm key iv buf n) (benchBlocks algorithm key iv buf n)

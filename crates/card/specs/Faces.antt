@@ -3,6 +3,8 @@ use mathlib.Core.List.{List, [], _∷_}
 use Prim.Native.Nat.{ℕ}
 use Rattle.fields.specs.declared.Asked.{Asked}
 use Rattle.fields.specs.declared.Fields.{Fields}
+use Rattle.records.specs.declared.RecordRead.{RecordRead}
+use Rattle.records.specs.Record.{recordWritten, bufferWritten}
 use Rattle.plan.specs.declared.Plan.{Plan}
 
 -- the fields that a caller gives one by one
@@ -16,3 +18,44 @@ shownNumbers number f = number ∷ f .version ∷ f .algorithm ∷ f .usage ∷ 
 -- start, length and skip of the first piece, and of the second
 abbrev pub pieceNumbers : Plan → List ℕ
 pieceNumbers p = p .first .start ∷ p .first .length ∷ p .first .skip ∷ p .second .start ∷ p .second .length ∷ p .second .skip ∷ []
+
+-- Each answer as one record, part by part as its caller has it.
+
+-- of reading a record: the refusal, number and fields, the key, the bytes that it took and the line
+pub record ReadOut : Type 0 where
+  pub refusal : ℕ
+  pub shown : List ℕ
+  pub key : List ℕ
+  pub used : ℕ
+  pub line : ℕ
+
+abbrev pub readAs : ℕ → List ℕ → List ℕ → ℕ → ℕ → ReadOut
+readAs refusal shown key used line = record { refusal = refusal; shown = shown; key = key; used = used; line = line }
+
+abbrev pub readOut : RecordRead → ReadOut
+readOut r = readAs (r .refusal) (shownNumbers (r .number) (r .fields)) (r .key) (r .used) (r .line)
+
+-- of writing one: the refusal, the text's length and the buffer afterwards
+pub record WrittenOut : Type 0 where
+  pub refusal : ℕ
+  pub length : ℕ
+  pub buffer : List ℕ
+
+abbrev pub writtenAs : ℕ → ℕ → List ℕ → WrittenOut
+writtenAs refusal length buffer = record { refusal = refusal; length = length; buffer = buffer }
+
+abbrev pub writtenOut : ℕ → Asked → List ℕ → List ℕ → WrittenOut
+writtenOut number asked key buffer =
+    let answer = recordWritten number asked key buffer in
+    writtenAs (answer .refusal) (answer .length) (bufferWritten number asked key buffer)
+
+-- of a plan: the refusal and the pieces' numbers
+pub record PlannedOut : Type 0 where
+  pub refusal : ℕ
+  pub pieces : List ℕ
+
+abbrev pub plannedAs : ℕ → List ℕ → PlannedOut
+plannedAs refusal pieces = record { refusal = refusal; pieces = pieces }
+
+abbrev pub plannedOut : Plan → PlannedOut
+plannedOut p = plannedAs (p .refusal) (pieceNumbers p)

@@ -1,13 +1,25 @@
--- Refusals 5, 4 and 6, in this order, which the bench call and traffic share (document 01, "Numbers an engineer sees"). Assumes nothing: this is a definition.
+-- What the bench call and traffic share: refusals 5, 4 and 6, in this order (document 01, "Numbers an engineer sees"), and the form of their
+-- answers. Assumes nothing: these are definitions.
 use mathlib.Core.Bool.{_||_}
+use mathlib.Core.List.{List}
 use Prim.Native.Nat.{ℕ, _+_, _*_}
 use lib.Dec.{eqb, ltb}
 use Rattle.refusals.specs.Numbers.{done, lengthBad, bufferLarge, spanOutside, refuse}
+use Rattle.span.specs.Span.{longestBuffer, longestStream}
 
 -- a buffer of `size` bytes, and n bits of it from `start` on with the keystream's bits from `skip` on
 unfoldable pub spanRefusal : ℕ → ℕ → ℕ → ℕ → ℕ
 spanRefusal size start n skip =
-    refuse (ltb 8192 size) bufferLarge
-    (refuse (eqb n 0 || ltb 8288 (skip + n)) lengthBad
+    refuse (ltb longestBuffer size) bufferLarge
+    (refuse (eqb n 0 || ltb longestStream (skip + n)) lengthBad
     (refuse (ltb (8 * size) (start + n)) spanOutside
     done))
+
+-- the answer, part by part as its caller has it: the refusal, the buffer afterwards and the blocks reported
+pub record Ciphered : Type 0 where
+  pub refusal : ℕ
+  pub buffer : List ℕ
+  pub blocks : ℕ
+
+abbrev pub cipheredAs : ℕ → List ℕ → ℕ → Ciphered
+cipheredAs refusal buffer blocks = record { refusal = refusal; buffer = buffer; blocks = blocks }

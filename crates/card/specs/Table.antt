@@ -15,6 +15,7 @@ use Rattle.slots.specs.declared.Put.{Put}
 use Rattle.fields.specs.Fields.{isSlotNumber}
 use Rattle.slots.specs.Slots.{hasBad, empty, nil, slotAt}
 use Rattle.slots.specs.Calls.{loadedBy, movedBy, clearedBy, shownOf}
+use Rattle.card.specs.Span.{Ciphered, cipheredAs}
 use Rattle.card.specs.Traffic.{trafficRefusalOf, traffickedOf, trafficBlocksOf}
 
 abbrev pub isTable : List Slot → Bool
@@ -45,7 +46,16 @@ traffickedIn t direction number iv buf start n skip = traffickedOf (isNoTable t)
 abbrev pub trafficBlocksIn : List Slot → ℕ → ℕ → List ℕ → List ℕ → ℕ → ℕ → ℕ → ℕ
 trafficBlocksIn t direction number iv buf start n skip = trafficBlocksOf (isNoTable t) (slotAt t number) direction number iv buf start n skip
 
--- the answer to a read, part by part, as its caller has it
+-- the answers, part by part as their caller has them
+
+abbrev pub changedAs : ℕ → List Slot → Changed
+changedAs refusal table = record { refusal = refusal; table = table }
+
+abbrev pub trafficAnswerIn : List Slot → ℕ → ℕ → List ℕ → List ℕ → ℕ → ℕ → ℕ → Ciphered
+trafficAnswerIn t direction number iv buf start n skip =
+    cipheredAs (trafficRefusalIn t direction number iv buf start n skip) (traffickedIn t direction number iv buf start n skip)
+    (trafficBlocksIn t direction number iv buf start n skip)
+
 abbrev pub shownAs : ℕ → ℕ → ℕ → ℕ → ℕ → ℕ → ℕ → Shown
 shownAs refusal number version algorithm usage side place = record {
   refusal = refusal;

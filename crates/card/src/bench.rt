@@ -2,9 +2,11 @@
 ghost use mathlib.Core.Path.{_≡_};
 ghost use Prim.Native.Nat.{_*_, _≤_};
 ghost use lib.ListN.{length};
-ghost use Rattle.span.specs.Span.{written};
+ghost use Rattle.span.specs.Span.{longestBuffer, longestStream, written};
 ghost use Rattle.keystream.specs.Stream.{keystream};
-ghost use Rattle.card.specs.Bench.{keyedRefusal, benchRefusal, benched, benchBlocks};
+ghost use Rattle.card.specs.Bench.{keyedRefusal, benchRefusal, benchAnswer};
+ghost use Rattle.card.specs.Span.{cipheredAs};
+use crate::ciphering::cipher_from;
 use crate::lent::iv_of;
 use crate::lent::key_of;
 use crate::span_tests::span_refusal;
@@ -41,11 +43,11 @@ fn bench_refusal(algorithm: u64, key: &[u8], iv: &[u8], buf: &[u8], n: usize) ->
 
 // Bits 0 to n - 1 of the buffer become the keystream's. They are cleared first, and xored then.
 fn write_keystream(buf: &mut [u8], n: usize, algorithm: u64, ck: [u8; 24], iv: [u8; 10])
-    requires { ⌜ (length (now buf) ≤ 8192) × (n ≤ 8 * length (now buf)) × (n ≤ 8288) ⌝ }
+    requires { ⌜ (length (now buf) ≤ longestBuffer) × (n ≤ 8 * length (now buf)) × (n ≤ longestStream) ⌝ }
     ensures { λ _. ⌜ now (buf .exit) ≡ written (now (buf .entry)) (keystream algorithm ck iv) 0 0 n ⌝ }
 {
     span::clear_front(buf, n);
-    keystream::xor_keystream(buf, 0, n, 0, algorithm, ck, iv);
+    cipher_from(buf, 0, n, 0, algorithm, ck, iv);
 }
 
 // Writes keystream bits 0 to n - 1 from bit 0 of the buffer on, keeps its later bits, and reports how many blocks were made.
@@ -58,7 +60,8 @@ pub extern "C" fn card_bench(
     n: usize,
     blocks: &mut usize,
 ) -> u8
-    ensures { λ r. ⌜ (r ≡ benchRefusal algorithm (now (key .entry)) (now (iv .entry)) (now (buf .entry)) n) × (now (buf .exit) ≡ benched algorithm (now (key .entry)) (now (iv .entry)) (now (buf .entry)) n) × (now (blocks .exit) ≡ benchBlocks algorithm (now (key .entry)) (now (iv .entry)) (now (buf .entry)) n) ⌝ }
+    ensures { λ r. ⌜ cipheredAs r (now (buf .exit)) (now (blocks .exit))
+        ≡ benchAnswer algorithm (now (key .entry)) (now (iv .entry)) (now (buf .entry)) n ⌝ }
 {
     *blocks = 0;
     let refusal = bench_refusal(algorithm, key, iv, &buf[..], n);

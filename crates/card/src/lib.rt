@@ -1,5 +1,6 @@
 // The card: the calls that an integrator makes, each with every refusal of document 01.
 pub mod bench;
+pub mod ciphering;
 mod lent;
 mod lent_table;
 pub mod listing;

@@ -1,7 +1,7 @@
 // The plan of a direct mode PDU, for C.
 ghost use mathlib.Core.Path.{_≡_};
 ghost use Rattle.plan.specs.Plan.{planOf};
-ghost use Rattle.card.specs.Faces.{pieceNumbers};
+ghost use Rattle.card.specs.Faces.{plannedAs, plannedOut};
 
 // Leaves start, length and skip of the first piece and of the second in `pieces`; zeros where there is none, and on a refusal.
 #[no_mangle]
@@ -14,7 +14,7 @@ pub extern "C" fn card_plan(
     sdu: usize,
     pieces: &mut [usize; 6],
 ) -> u8
-    ensures { λ r. ⌜ (r ≡ planOf kind state flag length address sdu .refusal) × (now (pieces .exit) ≡ pieceNumbers (planOf kind state flag length address sdu)) ⌝ }
+    ensures { λ r. ⌜ plannedAs r (now (pieces .exit)) ≡ plannedOut (planOf kind state flag length address sdu) ⌝ }
 {
     let p = plan::plan_pdu(kind, state, flag, length, address, sdu);
     let a = p.first;

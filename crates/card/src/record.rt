@@ -1,7 +1,7 @@
 // Key records as text, for C.
 ghost use mathlib.Core.Path.{_≡_};
-ghost use Rattle.records.specs.Record.{recordRead, recordWritten, bufferWritten};
-ghost use Rattle.card.specs.Faces.{shownNumbers, asking};
+ghost use Rattle.records.specs.Record.{recordRead};
+ghost use Rattle.card.specs.Faces.{asking, readAs, readOut, writtenAs, writtenOut};
 use fields::Asked;
 
 // Reads one record from the front of a text: leaves its number and fields in `shown`, its key in `key`, and how many bytes it took in
@@ -14,7 +14,8 @@ pub extern "C" fn card_record_read(
     used: &mut usize,
     line: &mut usize,
 ) -> u8
-    ensures { λ r. ⌜ (r ≡ recordRead (now (text .entry)) .refusal) × (now (shown .exit) ≡ shownNumbers (recordRead (now (text .entry)) .number) (recordRead (now (text .entry)) .fields)) × (now (key .exit) ≡ recordRead (now (text .entry)) .key) × (now (used .exit) ≡ recordRead (now (text .entry)) .used) × (now (line .exit) ≡ recordRead (now (text .entry)) .line) ⌝ }
+    ensures { λ r. ⌜ readAs r (now (shown .exit)) (now (key .exit)) (now (used .exit)) (now (line .exit))
+        ≡ readOut (recordRead (now (text .entry))) ⌝ }
 {
     let r = records::read_record(text);
     let f = r.fields;
@@ -46,7 +47,8 @@ pub extern "C" fn card_record_write(
     buf: &mut [u8],
     length: &mut usize,
 ) -> u8
-    ensures { λ r. ⌜ (r ≡ recordWritten number (asking version algorithm usage side place) (now (key .entry)) (now (buf .entry)) .refusal) × (now (length .exit) ≡ recordWritten number (asking version algorithm usage side place) (now (key .entry)) (now (buf .entry)) .length) × (now (buf .exit) ≡ bufferWritten number (asking version algorithm usage side place) (now (key .entry)) (now (buf .entry))) ⌝ }
+    ensures { λ r. ⌜ writtenAs r (now (length .exit)) (now (buf .exit))
+        ≡ writtenOut number (asking version algorithm usage side place) (now (key .entry)) (now (buf .entry)) ⌝ }
 {
     let asked = Asked {
         version,

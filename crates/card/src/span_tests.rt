@@ -14,13 +14,13 @@ fn sum_above(limit: usize, a: usize, b: usize) -> bool
 pub fn span_refusal(size: usize, start: usize, n: usize, skip: usize) -> u8
     ensures { λ r. ⌜ r ≡ spanRefusal size start n skip ⌝ }
 {
-    if 8192 < size {
+    if span::LONGEST_BUFFER < size {
         return refusals::BUFFER;
     }
     if n == 0 {
         return refusals::LENGTH;
     }
-    if sum_above(8288, skip, n) {
+    if sum_above(span::LONGEST_STREAM, skip, n) {
         return refusals::LENGTH;
     }
     if sum_above(8 * size, start, n) {

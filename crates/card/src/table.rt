@@ -3,7 +3,8 @@ ghost use mathlib.Core.Path.{_≡_};
 ghost use Rattle.slots.specs.Calls.{shownOf};
 ghost use Rattle.slots.specs.Seen.{loadPut};
 ghost use Rattle.card.specs.Faces.{asking};
-ghost use Rattle.card.specs.Table.{loadedIn, movedIn, clearedIn, shownAs, shownIn, trafficRefusalIn, traffickedIn, trafficBlocksIn};
+ghost use Rattle.card.specs.Span.{cipheredAs};
+ghost use Rattle.card.specs.Table.{changedAs, loadedIn, movedIn, clearedIn, shownAs, shownIn, trafficAnswerIn};
 ghost use Rattle.card.specs.Traffic.{trafficRefusalOf, traffickedOf, trafficBlocksOf};
 use crate::lent_table::is_no_table;
 use crate::lent_table::put_slot;
@@ -49,7 +50,8 @@ pub extern "C" fn card_load(
     place: u64,
     key: &[u8; 24],
 ) -> u8
-    ensures { λ r. ⌜ (r ≡ loadedIn (now (t .entry)) number (asking version algorithm usage side place) (now (key .entry)) .refusal) × (now (t .exit) ≡ loadedIn (now (t .entry)) number (asking version algorithm usage side place) (now (key .entry)) .table) ⌝ }
+    ensures { λ r. ⌜ changedAs r (now (t .exit))
+        ≡ loadedIn (now (t .entry)) number (asking version algorithm usage side place) (now (key .entry)) ⌝ }
 {
     let put = load_from(
         is_no_table(t),
@@ -68,7 +70,7 @@ pub extern "C" fn card_load(
 // Carries a filled slot to an empty one, with a use that lies within the present one.
 #[no_mangle]
 pub extern "C" fn card_move(t: &mut [Slot], from: u64, to: u64, asked: u64) -> u8
-    ensures { λ r. ⌜ (r ≡ movedIn (now (t .entry)) from to asked .refusal) × (now (t .exit) ≡ movedIn (now (t .entry)) from to asked .table) ⌝ }
+    ensures { λ r. ⌜ changedAs r (now (t .exit)) ≡ movedIn (now (t .entry)) from to asked ⌝ }
 {
     let put = slots::move_of(
         is_no_table(t),
@@ -85,7 +87,7 @@ pub extern "C" fn card_move(t: &mut [Slot], from: u64, to: u64, asked: u64) -> u
 // Empties a filled slot.
 #[no_mangle]
 pub extern "C" fn card_clear(t: &mut [Slot], number: u64) -> u8
-    ensures { λ r. ⌜ (r ≡ clearedIn (now (t .entry)) number .refusal) × (now (t .exit) ≡ clearedIn (now (t .entry)) number .table) ⌝ }
+    ensures { λ r. ⌜ changedAs r (now (t .exit)) ≡ clearedIn (now (t .entry)) number ⌝ }
 {
     let put = slots::clear_of(is_no_table(t), slot_in(t, number), number);
     put_slot(t, number, put)
@@ -154,7 +156,9 @@ fn traffic_from<'a>(
     skip: usize,
     blocks: &'a mut usize,
 ) -> u8
-    ensures { λ r. ⌜ (r ≡ trafficRefusalOf bad slot direction number (now (iv .entry)) (now (buf .entry)) start n skip) × (now (buf .exit) ≡ traffickedOf bad slot direction number (now (iv .entry)) (now (buf .entry)) start n skip) × (now (blocks .exit) ≡ trafficBlocksOf bad slot direction number (now (iv .entry)) (now (buf .entry)) start n skip) ⌝ }
+    ensures { λ r. ⌜ (r ≡ trafficRefusalOf bad slot direction number (now (iv .entry)) (now (buf .entry)) start n skip)
+        × (now (buf .exit) ≡ traffickedOf bad slot direction number (now (iv .entry)) (now (buf .entry)) start n skip)
+        × (now (blocks .exit) ≡ trafficBlocksOf bad slot direction number (now (iv .entry)) (now (buf .entry)) start n skip) ⌝ }
 {
     let report = traffic_of(bad, slot, direction, number, iv, buf, start, n, skip);
     *blocks = report.blocks;
@@ -174,7 +178,8 @@ pub extern "C" fn card_traffic<'a>(
     skip: usize,
     blocks: &'a mut usize,
 ) -> u8
-    ensures { λ r. ⌜ (r ≡ trafficRefusalIn (now (t .entry)) direction number (now (iv .entry)) (now (buf .entry)) start n skip) × (now (buf .exit) ≡ traffickedIn (now (t .entry)) direction number (now (iv .entry)) (now (buf .entry)) start n skip) × (now (blocks .exit) ≡ trafficBlocksIn (now (t .entry)) direction number (now (iv .entry)) (now (buf .entry)) start n skip) ⌝ }
+    ensures { λ r. ⌜ cipheredAs r (now (buf .exit)) (now (blocks .exit))
+        ≡ trafficAnswerIn (now (t .entry)) direction number (now (iv .entry)) (now (buf .entry)) start n skip ⌝ }
 {
     traffic_from(
         is_no_table(t),

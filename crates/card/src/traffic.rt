@@ -2,6 +2,7 @@
 ghost use mathlib.Core.Path.{_≡_};
 ghost use Rattle.laws.specs.Bits.{bitAt};
 ghost use Rattle.card.specs.Traffic.{onSide, useRefusalOf, trafficRefusalOf, traffickedOf, trafficBlocksOf, trafficRefusal, trafficked, trafficBlocks};
+use crate::ciphering::cipher_from;
 use crate::lent::iv_of;
 use crate::span_tests::span_refusal;
 use fields::Fields;
@@ -105,7 +106,9 @@ pub fn traffic_of(
     n: usize,
     skip: usize,
 ) -> Report
-    ensures { λ r. ⌜ (r .refusal ≡ trafficRefusalOf bad slot direction number (now (iv .entry)) (now (buf .entry)) start n skip) × (r .blocks ≡ trafficBlocksOf bad slot direction number (now (iv .entry)) (now (buf .entry)) start n skip) × (now (buf .exit) ≡ traffickedOf bad slot direction number (now (iv .entry)) (now (buf .entry)) start n skip) ⌝ }
+    ensures { λ r. ⌜ (r .refusal ≡ trafficRefusalOf bad slot direction number (now (iv .entry)) (now (buf .entry)) start n skip)
+        × (r .blocks ≡ trafficBlocksOf bad slot direction number (now (iv .entry)) (now (buf .entry)) start n skip)
+        × (now (buf .exit) ≡ traffickedOf bad slot direction number (now (iv .entry)) (now (buf .entry)) start n skip) ⌝ }
 {
     let refusal = traffic_refusal(bad, slot, direction, number, iv, &buf[..], start, n, skip);
     if refusal != refusals::DONE {
@@ -113,7 +116,7 @@ pub fn traffic_of(
     }
     let f = slot.fields;
     let key = slot.key;
-    keystream::xor_keystream(buf, start, n, skip, f.algorithm as u64, key, iv_of(iv));
+    cipher_from(buf, start, n, skip, f.algorithm as u64, key, iv_of(iv));
     let blocks = span::blocks_used(skip, n);
     Report { refusal, blocks }
 }
@@ -129,7 +132,9 @@ pub fn traffic(
     n: usize,
     skip: usize,
 ) -> Report
-    ensures { λ r. ⌜ (r .refusal ≡ trafficRefusal table direction number (now (iv .entry)) (now (buf .entry)) start n skip) × (r .blocks ≡ trafficBlocks table direction number (now (iv .entry)) (now (buf .entry)) start n skip) × (now (buf .exit) ≡ trafficked table direction number (now (iv .entry)) (now (buf .entry)) start n skip) ⌝ }
+    ensures { λ r. ⌜ (r .refusal ≡ trafficRefusal table direction number (now (iv .entry)) (now (buf .entry)) start n skip)
+        × (r .blocks ≡ trafficBlocks table direction number (now (iv .entry)) (now (buf .entry)) start n skip)
+        × (now (buf .exit) ≡ trafficked table direction number (now (iv .entry)) (now (buf .entry)) start n skip) ⌝ }
 {
     let bad = slots::table_is_bad(table);
     let slot = slots::slot_or_empty(table, number);

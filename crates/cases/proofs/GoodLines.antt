@@ -17,7 +17,7 @@ use Rattle.records.proofs.Hexes.{digit-is-hex, value-of-digit}
 use Rattle.records.proofs.Puts.{length-hex}
 use Rattle.cases.specs.Line.{space, indexOf, upTo, pieceLength, afterSpaces, part}
 use Rattle.cases.specs.Parts.{largest, goodNumber, numberAfter, numberOf, allHex, areBytes, bytesOf}
-use Rattle.cases.specs.Case.{Case, joined, lineOf, Narrow, Bytes, Good, lastPart, numbersReadable, isReadable, caseOf}
+use Rattle.cases.specs.Case.{Case, joined, caseLine, Narrow, Bytes, GoodCase, lastPart, numbersReadable, isReadable, caseOf}
 use Rattle.cases.proofs.Hexes.{length-bytes}
 use Rattle.cases.proofs.Promises.{hex-first, hex-second}
 
@@ -137,7 +137,7 @@ module _ (rest : List ℕ) where
     part-next k = ap (upTo space) (after-first k)
 
 -- a good case's line is readable, and says that case
-module _ (c : Case) (g : Good c) where
+module _ (c : Case) (g : GoodCase c) where
   abbrev from-5 : List ℕ
   from-5 = joined (digits (c .skip)) (hexText (c .buffer))
 
@@ -206,16 +206,16 @@ module _ (c : Case) (g : Good c) where
   unfolding afterSpaces
   last-part = after-3 3 ∙ after-first from-4 _ hex-3 2 ∙ after-first from-5 _ hex-4 1 ∙ after-first (hexText (c .buffer)) _ hex-5 0
 
-  pub good-is-readable : isReadable (lineOf c) ≡ true
-  unfolding lineOf isReadable numbersReadable
+  pub good-is-readable : isReadable (caseLine c) ≡ true
+  unfolding caseLine isReadable numbersReadable
   good-is-readable =
       λ i.
       (number-0 i .good && (number-3 i .good && (number-4 i .good && number-5 i .good)))
       && ((ap areBytes part-1 ∙ bytes-good (c .key) (g .key)) i
       && ((ap areBytes part-2 ∙ bytes-good (c .iv) (g .iv)) i && (ap areBytes last-part ∙ bytes-good (c .buffer) (g .buffer)) i))
 
-  pub good-is-read : caseOf (lineOf c) ≡ c
-  unfolding lineOf caseOf
+  pub good-is-read : caseOf (caseLine c) ≡ c
+  unfolding caseLine caseOf
   good-is-read =
       λ i.
       record {

@@ -5,6 +5,7 @@ use mathlib.Core.Path.{_≡_, sym, _∙_}
 use Prim.Native.Nat.{ℕ, _/_, _≤_}
 use native.Mathlib.Omega.{arith}
 use lib.ListN.{length}
+use Rattle.span.specs.Span.{longestBuffer}
 use Rattle.laws.proofs.Cases.{and-left, and-right}
 use Rattle.card.proofs.Passed.{KeyedPassed, keyed-passed}
 use Rattle.cases.specs.Line.{part}
@@ -45,6 +46,6 @@ module _ {line : List ℕ} (a : Accepted line) where
   unfolding caseOf
   iv-size = sym (passed .iv-10) ∙ length-bytes (part 2 line)
 
-  pub buffer-small : length (lastPart line) / 2 ≤ 8192
+  pub buffer-small : length (lastPart line) / 2 ≤ longestBuffer
   unfolding caseOf
   buffer-small = omega (arith, passed .span .small, length-bytes (lastPart line))

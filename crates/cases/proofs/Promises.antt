@@ -22,7 +22,7 @@ use Rattle.records.proofs.Hexes.{value-small, digit-of-value}
 use Rattle.records.proofs.Puts.{length-hex}
 use Rattle.cases.specs.Line.{afterSpaces, part}
 use Rattle.cases.specs.Parts.{largest, noNumber, isDigit, numberAfter, numberOf, areBytes, bytesOf}
-use Rattle.cases.specs.Case.{joined, lineOf, Narrow, Bytes, Good, lastPart, isNumber, numbersReadable, isReadable, caseOf}
+use Rattle.cases.specs.Case.{joined, caseLine, Narrow, Bytes, GoodCase, lastPart, isNumber, numbersReadable, isReadable, caseOf}
 use Rattle.cases.proofs.Hexes.{even, digit-at, length-bytes}
 use Rattle.cases.proofs.Passed.{key-readable, iv-readable, buffer-readable}
 use Rattle.cases.proofs.Pieces.{cut-at, some-before}
@@ -191,8 +191,8 @@ module _ (line : List ℕ) (e : isReadable line ≡ true) where
   number-5 = number-text (part 5 line) (and-right (isNumber 4 line) _ past-3)
 
   -- it is the line of its case
-  pub line-is : line ≡ lineOf (caseOf line)
-  unfolding lineOf caseOf
+  pub line-is : line ≡ caseLine (caseOf line)
+  unfolding caseLine caseOf
   line-is =
       seven line (some-bytes (lastPart line) (buffer-readable line e))
       ∙ (λ i.
@@ -205,7 +205,7 @@ module _ (line : List ℕ) (e : isReadable line ≡ true) where
       (bytes-text (lastPart line) (buffer-readable line e) i)))))))
 
   -- and the case is good
-  pub case-good : Good (caseOf line)
+  pub case-good : GoodCase (caseOf line)
   unfolding caseOf
   case-good =
       record {
@@ -220,4 +220,4 @@ module _ (line : List ℕ) (e : isReadable line ≡ true) where
 
 -- so two readable lines that say the same case are the same
 pub one-line : (s t : List ℕ) → isReadable s ≡ true → isReadable t ≡ true → caseOf s ≡ caseOf t → s ≡ t
-one-line s t e f h = line-is s e ∙ ap lineOf h ∙ sym (line-is t f)
+one-line s t e f h = line-is s e ∙ ap caseLine h ∙ sym (line-is t f)

@@ -16,7 +16,7 @@ use Rattle.records.proofs.Puts.{put-length, length-hex}
 use Rattle.records.proofs.Lengths.{digits-short}
 use Rattle.cases.specs.Line.{space, indexOf, upTo}
 use Rattle.cases.specs.Case.{Case, isReadable, caseOf, refusalOf, Accepted}
-use Rattle.cases.specs.Answer.{valueText, modeText, ciphered, bufferText, acceptedText, refusedText, unreadableText, caseText, answerText, room}
+use Rattle.cases.specs.Answer.{valueText, modeText, ciphered, bufferText, acceptedText, refusedText, unreadableText, caseText, answerText, answerRoom}
 use Rattle.cases.proofs.Passed.{passed}
 
 module _ (line : List ℕ) where
@@ -65,12 +65,12 @@ ciphered-length c = length-xored (c .buffer) _ (c .start) (c .skip) (c .bits)
 
 -- an accepted case's answer fits: the buffer after three values, and so the whole
 module _ {line : List ℕ} (a : Accepted line) where
-  pub buffer-fits : 147 + length (bufferText (caseOf line)) ≤ room
+  pub buffer-fits : 147 + length (bufferText (caseOf line)) ≤ answerRoom
   buffer-fits =
       let text = ciphered (caseOf line) in
       omega (arith, length-append (hexText text) (lf ∷ []), length-hex text, ciphered-length (caseOf line), passed a .span .small)
 
-  pub accepted-fits : length (acceptedText (caseOf line)) ≤ room
+  pub accepted-fits : length (acceptedText (caseOf line)) ≤ answerRoom
   unfolding acceptedText
   accepted-fits =
       let c = caseOf line in
@@ -78,7 +78,7 @@ module _ {line : List ℕ} (a : Accepted line) where
       omega (arith, length-append mode (bufferText c), mode-length (c .algorithm) (c .key) (c .iv), buffer-fits)
 
 -- a refusal is a byte
-pub refused-fits : (refusal : ℕ) → refusal ≤ 255 → length (refusedText refusal) ≤ room
+pub refused-fits : (refusal : ℕ) → refusal ≤ 255 → length (refusedText refusal) ≤ answerRoom
 refused-fits refusal h =
     omega (
       arith,
@@ -88,5 +88,5 @@ refused-fits refusal h =
     )
 
 -- what a caller knows of its buffer after an answer
-pub answered : {b b′ t : List ℕ} {n : ℕ} → (n ≤ room) × Put b 0 t b′ n → room ≤ length b → (length b′ ≡ length b) × (n ≤ length b′)
+pub answered : {b b′ t : List ℕ} {n : ℕ} → (n ≤ answerRoom) × Put b 0 t b′ n → answerRoom ≤ length b → (length b′ ≡ length b) × (n ≤ length b′)
 answered {b} {b′} {t} {n} p h = let e = put-length (p .1) in (e, omega (arith, p .0))

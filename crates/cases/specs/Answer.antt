@@ -52,5 +52,5 @@ unfoldable pub answerText : List ℕ → List ℕ
 answerText s = pick (eqb (indexOf lf s) (length s)) unreadableText (caseText (upTo lf s))
 
 -- every answer fits a buffer of this many bytes: three values, and 8,192 bytes
-abbrev pub room : ℕ
-room = 16532
+abbrev pub answerRoom : ℕ
+answerRoom = 16532

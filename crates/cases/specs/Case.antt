@@ -27,8 +27,8 @@ abbrev pub joined : List ℕ → List ℕ → List ℕ
 joined text rest = text ++ (space ∷ rest)
 
 -- the line of a case
-unfoldable pub lineOf : Case → List ℕ
-lineOf c =
+unfoldable pub caseLine : Case → List ℕ
+caseLine c =
     joined (digits (c .algorithm))
     (joined (hexText (c .key))
     (joined (hexText (c .iv))
@@ -45,7 +45,7 @@ abbrev pub Bytes : List ℕ → Type 0
 Bytes l = (0 < length l) × ((i : ℕ) → getD l i 0 < 256)
 
 -- what a line can say
-pub record Good (c : Case) : Type 0 where
+pub record GoodCase (c : Case) : Type 0 where
   pub algorithm : Narrow (c .algorithm)
   pub key : Bytes (c .key)
   pub iv : Bytes (c .iv)

@@ -12,9 +12,10 @@ use tea::mode::mode_of;
 ghost use mathlib.Core.Path.{_≡_};
 ghost use Prim.Native.Nat.{_+_, _≤_, _/_};
 ghost use lib.ListN.{length};
+ghost use Rattle.span.specs.Span.{longestBuffer};
 ghost use Rattle.records.specs.Writing.{Room, Put};
 ghost use Rattle.cases.specs.Case.{lastPart, caseOf, Accepted};
-ghost use Rattle.cases.specs.Answer.{valueText, modeText, ciphered, bufferText, acceptedText, room};
+ghost use Rattle.cases.specs.Answer.{valueText, modeText, ciphered, bufferText, acceptedText, answerRoom};
 
 // A value of 24 bytes and a space: 49 bytes.
 fn put_value(out: &mut [u8], at: usize, bytes: [u8; 24]) -> usize
@@ -51,7 +52,7 @@ fn cipher(buf: &mut [u8], line: &[u8])
     let ck = key_of(line);
     let iv = iv_of(line);
     read_bytes(after_spaces(line, 6), buf);
-    keystream::xor_keystream(buf, start, bits, skip, algorithm, ck, iv);
+    card::ciphering::cipher_from(buf, start, bits, skip, algorithm, ck, iv);
 }
 
 // The ciphered buffer and LF, by way of a lent buffer of its size.
@@ -65,10 +66,10 @@ fn put_ciphered(out: &mut [u8], at: usize, buf: &mut [u8], line: &[u8]) -> usize
 }
 
 // As many bytes as the longest buffer has.
-fn longest() -> [u8; 8192]
-    ensures { λ r. ⌜ length r ≡ 8192 ⌝ }
+fn longest() -> [u8; span::LONGEST_BUFFER]
+    ensures { λ r. ⌜ length r ≡ longestBuffer ⌝ }
 {
-    [0; 8192]
+    [0; span::LONGEST_BUFFER]
 }
 
 // The ciphered buffer and LF.
@@ -83,7 +84,7 @@ fn put_buffer(out: &mut [u8], at: usize, line: &[u8]) -> usize
 
 // The answer to a case that is not refused.
 pub fn put_accepted(out: &mut [u8], line: &[u8]) -> usize
-    requires { ⌜ Accepted (now line) × (room ≤ length (now out)) ⌝ }
+    requires { ⌜ Accepted (now line) × (answerRoom ≤ length (now out)) ⌝ }
     ensures { λ r. ⌜ Put (now (out .entry)) 0 (acceptedText (caseOf (now (line .entry)))) (now (out .exit)) r ⌝ }
 {
     let at = put_mode(out, 0, value(line, 0), key_of(line), iv_of(line));

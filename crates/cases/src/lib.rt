@@ -18,7 +18,7 @@ ghost use lib.ListN.{length};
 ghost use Rattle.records.specs.Text.{lf};
 ghost use Rattle.records.specs.Writing.{Put};
 ghost use Rattle.cases.specs.Line.{pieceLength};
-ghost use Rattle.cases.specs.Answer.{caseText, answerText, room};
+ghost use Rattle.cases.specs.Answer.{caseText, answerText, answerRoom};
 
 // Every answer fits a buffer of this many bytes.
 pub const ROOM: usize = 16532;
@@ -32,8 +32,8 @@ pub fn line_length(s: &[u8]) -> usize
 
 // The answer to a line without its LF.
 fn put_case(out: &mut [u8], line: &[u8]) -> usize
-    requires { ⌜ room ≤ length (now out) ⌝ }
-    ensures { λ r. ⌜ (r ≤ room) × Put (now (out .entry)) 0 (caseText (now (line .entry))) (now (out .exit)) r ⌝ }
+    requires { ⌜ answerRoom ≤ length (now out) ⌝ }
+    ensures { λ r. ⌜ (r ≤ answerRoom) × Put (now (out .entry)) 0 (caseText (now (line .entry))) (now (out .exit)) r ⌝ }
 {
     if !is_readable(line) {
         return put_bytes(out, 0, b"unreadable\n");
@@ -47,8 +47,8 @@ fn put_case(out: &mut [u8], line: &[u8]) -> usize
 
 // The answer to the first line of a text, at the front of the buffer, and its length. The bytes after it stay.
 pub fn put_answer(out: &mut [u8], s: &[u8]) -> usize
-    requires { ⌜ room ≤ length (now out) ⌝ }
-    ensures { λ r. ⌜ (r ≤ room) × Put (now (out .entry)) 0 (answerText (now (s .entry))) (now (out .exit)) r ⌝ }
+    requires { ⌜ answerRoom ≤ length (now out) ⌝ }
+    ensures { λ r. ⌜ (r ≤ answerRoom) × Put (now (out .entry)) 0 (answerText (now (s .entry))) (now (out .exit)) r ⌝ }
 {
     let end = index_of(s, b'\n');
     if end == s.len() {

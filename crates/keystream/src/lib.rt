@@ -6,7 +6,7 @@ ghost use Rattle.laws.specs.Lists.{tabulate};
 ghost use Rattle.field.specs.Field.{sBoxes};
 ghost use Rattle.products.specs.Products.{products};
 ghost use Rattle.schedule.specs.Schedule.{keyWord};
-ghost use Rattle.span.specs.Span.{xored, streamBit};
+ghost use Rattle.span.specs.Span.{longestBuffer, longestStream, xored, streamBit};
 ghost use Rattle.tea.specs.Keystream.{blockOf};
 ghost use Rattle.keystream.specs.Stream.{keystream};
 use tea::mode::Mode;
@@ -44,7 +44,7 @@ fn xor_blocks(
     table: &[u8; 256],
     mixes: &[u8; 2048],
 )
-    requires { ⌜ (length (now buf) ≤ 8192) × (start + n ≤ 8 * length (now buf)) × ((skip + n ≤ 8288) × ((now w ≡ tabulate (keyWord (mode .key)) 0 120) × ((now table ≡ sBoxes) × (now mixes ≡ products)))) ⌝ }
+    requires { ⌜ (length (now buf) ≤ longestBuffer) × (start + n ≤ 8 * length (now buf)) × ((skip + n ≤ longestStream) × ((now w ≡ tabulate (keyWord (mode .key)) 0 120) × ((now table ≡ sBoxes) × (now mixes ≡ products)))) ⌝ }
     ensures { λ _. ⌜ now (buf .exit) ≡ xored (now (buf .entry)) (streamBit (blockOf mode)) start skip n ⌝ }
 {
     let mut done = 0;
@@ -68,7 +68,7 @@ pub fn xor_keystream(
     ck: [u8; 24],
     iv: [u8; 10],
 )
-    requires { ⌜ (length (now buf) ≤ 8192) × (start + n ≤ 8 * length (now buf)) × (skip + n ≤ 8288) ⌝ }
+    requires { ⌜ (length (now buf) ≤ longestBuffer) × (start + n ≤ 8 * length (now buf)) × (skip + n ≤ longestStream) ⌝ }
     ensures { λ _. ⌜ now (buf .exit) ≡ xored (now (buf .entry)) (keystream algorithm ck iv) start skip n ⌝ }
 {
     let table = field::s_box_table();

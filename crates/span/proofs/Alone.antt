@@ -9,17 +9,17 @@ use lib.ListN.{length, length-append}
 use Rattle.laws.specs.Bits.{bitAt}
 use Rattle.laws.proofs.Cases.{lt-or-le}
 use Rattle.laws.proofs.Bits.{at-front, at-back, bytes-ext}
-use Rattle.span.specs.Span.{spanBit, putBit, xored, cleared, framed, nought}
+use Rattle.span.specs.Span.{spanBit, putBit, xored, zeroed, framed, nought}
 use Rattle.span.proofs.Within.{Beside, within-in, within-out, in-or-out, nought-lt}
 use Rattle.span.proofs.Laws.{length-written, written-bit, written-outside}
 
--- a bit of what was cleared, and a bit beside it
+-- a bit of what was zeroed, and a bit beside it
 
-cleared-in : (l : List ℕ) (off n j : ℕ) → off ≤ j → j < off + n → j < 8 * length l → bitAt (cleared l off n) j ≡ 0
+cleared-in : (l : List ℕ) (off n j : ℕ) → off ≤ j → j < off + n → j < 8 * length l → bitAt (zeroed l off n) j ≡ 0
 unfolding putBit nought
 cleared-in l off n j u v h = written-bit nought nought-lt l off 0 n j h ∙ within-in off n j _ _ u v
 
-cleared-out : (l : List ℕ) (off n j : ℕ) → Beside off n j → bitAt (cleared l off n) j ≡ bitAt l j
+cleared-out : (l : List ℕ) (off n j : ℕ) → Beside off n j → bitAt (zeroed l off n) j ≡ bitAt l j
 cleared-out l off n j = written-outside nought nought-lt l off 0 n j
 
 module _ (k : List ℕ) (from n : ℕ) (whole : length k ≡ 32) (fits : from + n ≤ 256) where
@@ -33,13 +33,13 @@ module _ (k : List ℕ) (from n : ℕ) (whole : length k ≡ 32) (fits : from + 
       let e : i ≡ 8 + (i - 8) = omega arith in
       ap (bitAt (framed k)) e ∙ at-back (0 ∷ []) (k ++ (0 ∷ 0 ∷ [])) (i - 8) ∙ at-front k (0 ∷ 0 ∷ []) (i - 8) (omega arith)
 
-  -- eight bits cleared before the run, and eight after it
+  -- eight bits zeroed before the run, and eight after it
 
   front : List ℕ
-  front = cleared (framed k) from 8
+  front = zeroed (framed k) from 8
 
   alone : List ℕ
-  alone = cleared front (from + n + 8) 8
+  alone = zeroed front (from + n + 8) 8
 
   before : (i : ℕ) → from ≤ i → i < from + 8 → bitAt alone i ≡ 0
   unfolding front alone
@@ -57,7 +57,7 @@ module _ (k : List ℕ) (from n : ℕ) (whole : length k ≡ 32) (fits : from + 
 
   -- what is xored into m bits of s, from bit e = from + 8 - at of the run alone on, changes the run alone
   pub run-only : (s : List ℕ) (at e m : ℕ) → at < 8 → e + at ≡ from + 8 → at + n ≤ m → m < at + n + 8
-      → xored s (bitAt (cleared (cleared (framed k) from 8) (from + n + 8) 8)) 0 e m ≡ xored s (bitAt k) at from n
+      → xored s (bitAt (zeroed (zeroed (framed k) from 8) (from + n + 8) 8)) 0 e m ≡ xored s (bitAt k) at from n
   unfolding xored spanBit front alone
   run-only s at e m ha he lo hi =
       bytes-ext _ _ (length s)

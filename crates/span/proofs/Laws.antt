@@ -9,7 +9,7 @@ use lib.ListN.{length, getD}
 use Rattle.laws.specs.Bits.{bitAt, bytesOfBits}
 use Rattle.laws.proofs.Cases.{lt-or-le}
 use Rattle.laws.proofs.Bits.{at-lt, at-past, length-bytes, bytes-lt, bytes-ext, bytes-are-bits, bits-of-bytes}
-use Rattle.span.specs.Span.{within, spanBit, putBit, xored, written, cleared, nought}
+use Rattle.span.specs.Span.{inRun, spanBit, putBit, xored, written, zeroed, nought}
 use Rattle.span.proofs.Within.{Binary, Beside, within-in, within-out, within-same, within-join, span-lt, put-lt, nought-lt, span-join, span-twice, span-cleared}
 
 -- a list of bytes
@@ -28,7 +28,7 @@ length-written l k off from n = length-bytes _ (length l)
 
 -- a run of no bits changes nothing
 
-none : (l : List ℕ) (inside : ℕ → ℕ) (off : ℕ) → Bytes l → bytesOfBits (λ j. within off 0 j (inside j) (bitAt l j)) (length l) ≡ l
+none : (l : List ℕ) (inside : ℕ → ℕ) (off : ℕ) → Bytes l → bytesOfBits (λ j. inRun off 0 j (inside j) (bitAt l j)) (length l) ≡ l
 none l inside off small =
     sym (bytes-are-bits l _ (length l) refl small (λ j h. sym (within-out off 0 j (inside j) (bitAt l j) (λ u. omega arith))))
 
@@ -51,7 +51,7 @@ over-bits : (p k : ℕ → ℕ) (size off from n : ℕ) → Binary p → xored (
 unfolding xored spanBit
 over-bits p k size off from n small =
     ap (bytesOfBits _) (length-bytes p size)
-    ∙ bytes-ext _ _ size (λ j h. ap (λ (x : ℕ). within off n j (bitXor x (k (from + (j - off)))) x) (bits-of-bytes p size small j h))
+    ∙ bytes-ext _ _ size (λ j h. ap (λ (x : ℕ). inRun off n j (bitXor x (k (from + (j - off)))) x) (bits-of-bytes p size small j h))
 
 -- bits p as bytes, where p has the bit of l
 kept : (l : List ℕ) (p : ℕ → ℕ) (j : ℕ) → Binary p → p j ≡ bitAt l j → bitAt (bytesOfBits p (length l)) j ≡ bitAt l j
@@ -120,19 +120,19 @@ module _ (k : ℕ → ℕ) (binary : Binary k) (l : List ℕ) (off from n : ℕ)
       over-bits (spanBit (bitAt l) k off from n) k (length l) off from n (span-lt off from n (at-lt l) binary)
       ∙ sym (bytes-are-bits l _ (length l) refl small (λ j h. sym (span-twice (bitAt l) k off from n j)))
 
--- bits that are cleared and then xored are the stream's
-pub xored-cleared : (l : List ℕ) (k : ℕ → ℕ) (off from n : ℕ) → xored (cleared l off n) k off from n ≡ written l k off from n
+-- bits that are zeroed and then xored are the stream's
+pub xored-cleared : (l : List ℕ) (k : ℕ → ℕ) (off from n : ℕ) → xored (zeroed l off n) k off from n ≡ written l k off from n
 unfolding written
 xored-cleared l k off from n =
     over-bits (putBit (bitAt l) nought off 0 n) k (length l) off from n (put-lt off 0 n (at-lt l) nought-lt)
     ∙ bytes-ext _ _ (length l) (λ j h. span-cleared (bitAt l) k off from n j)
 
--- the run cleared and then the m bits that follow it are one run cleared
-pub cleared-join : (l : List ℕ) (off n m : ℕ) → cleared (cleared l off n) (off + n) m ≡ cleared l off (n + m)
+-- the run zeroed and then the m bits that follow it are one run zeroed
+pub cleared-join : (l : List ℕ) (off n m : ℕ) → zeroed (zeroed l off n) (off + n) m ≡ zeroed l off (n + m)
 unfolding written putBit nought
 cleared-join l off n m =
     ap (bytesOfBits _) (length-bytes _ (length l))
     ∙ bytes-ext _ _ (length l)
     (λ j h.
-    ap (within (off + n) m j 0) (written-bit nought nought-lt l off 0 n j h)
+    ap (inRun (off + n) m j 0) (written-bit nought nought-lt l off 0 n j h)
     ∙ within-join off n m j (bitAt l j) (λ u. refl))

@@ -13,7 +13,7 @@ use lib.Seq.{getD-set-other}
 use Rattle.laws.specs.Bits.{bitOf, bitAt, byteOfBits}
 use Rattle.laws.proofs.Cases.{lt-or-le}
 use Rattle.laws.proofs.Bits.{bit-xor, low-kept, low-gone, high-kept, high-gone, at-byte, byte-is-bits, bits-of-byte, byte-lt, byte-ext, set-bytes}
-use Rattle.span.specs.Span.{spanBit, putBit, xored, written, cleared, nought}
+use Rattle.span.specs.Span.{spanBit, putBit, xored, written, zeroed, nought}
 use Rattle.span.proofs.Within.{Binary, Beside, within-in, within-out, in-or-out, nought-lt}
 use Rattle.span.proofs.Laws.{Bytes, length-xored, length-written, xored-bytes, written-bytes, xored-join, cleared-join}
 
@@ -40,10 +40,10 @@ set-xored l k from y binary h small =
         ∙ ap (bitXor (bitAt l (8 * y + t))) (bits-of-byte _ (λ s. binary _) t u)
         ∙ sym (within-in (8 * y) 8 (8 * y + t) _ _ (omega arith) (omega arith) ∙ rw e)
 
--- byte y with its n bits from bit a on cleared
+-- byte y with its n bits from bit a on zeroed
 set-cleared : (l : List ℕ) (y v a n : ℕ) → y < length l → Bytes l → v < 256 → a + n ≤ 8
     → ((t : ℕ) → t < 8 → a ≤ t → t < a + n → bitOf v t ≡ 0) → ((t : ℕ) → t < 8 → Beside a n t → bitOf v t ≡ bitOf (getD l y 0) t)
-    → set l y v ≡ cleared l (8 * y + a) n
+    → set l y v ≡ zeroed l (8 * y + a) n
 unfolding written putBit nought
 set-cleared l y v a n h small hv fits gone kept =
     set-bytes l (putBit (bitAt l) nought (8 * y + a) 0 n) y v h small
@@ -56,33 +56,33 @@ set-cleared l y v a n h small hv fits gone kept =
         (λ w z. gone t u w z ∙ sym (within-in (8 * y + a) n (8 * y + t) _ _ (omega arith) (omega arith)))
         (λ w. kept t u w ∙ sym (at-byte l y t u) ∙ sym (within-out (8 * y + a) n (8 * y + t) _ _ (λ z. omega (arith, w (omega arith)))))
 
--- the first o bits of byte y cleared
-pub front-cleared : (l : List ℕ) (y o : ℕ) → y < length l → Bytes l → o ≤ 8 → set l y (getD l y 0 % 2 ^ (8 - o)) ≡ cleared l (8 * y) o
+-- the first o bits of byte y zeroed
+pub front-cleared : (l : List ℕ) (y o : ℕ) → y < length l → Bytes l → o ≤ 8 → set l y (getD l y 0 % 2 ^ (8 - o)) ≡ zeroed l (8 * y) o
 front-cleared l y o h small fits =
     set-cleared l y _ 0 o h small (lt-of-le-of-lt (mod-le _ _) (small y)) (omega arith)
     (λ t u w z. low-gone (getD l y 0) (8 - o) t (omega arith))
     (λ t u w. low-kept (getD l y 0) (8 - o) t u (omega (arith, w (omega arith))))
-    ∙ ap (λ (m : ℕ). cleared l m o) (omega arith)
+    ∙ ap (λ (m : ℕ). zeroed l m o) (omega arith)
 
--- the bits of byte y from bit o on cleared
+-- the bits of byte y from bit o on zeroed
 back-cleared : (l : List ℕ) (y o : ℕ) → y < length l → Bytes l → o < 8
-    → set l y (bitXor (getD l y 0) (getD l y 0 % 2 ^ (8 - o))) ≡ cleared l (8 * y + o) (8 - o)
+    → set l y (bitXor (getD l y 0) (getD l y 0 % 2 ^ (8 - o))) ≡ zeroed l (8 * y + o) (8 - o)
 back-cleared l y o h small fits =
     let x = getD l y 0 in
     set-cleared l y _ o (8 - o) h small (xor-lt 8 x _ (small y) (lt-of-le-of-lt (mod-le _ _) (small y))) (omega arith)
     (λ t u w z. high-gone x (8 - o) t u (omega arith))
     (λ t u w. high-kept x (8 - o) t (⊎-elim (λ a. omega arith) (λ a. absurd (omega (arith, w a))) (lt-or-le t o)))
 
--- eight bits cleared: the last bits of one byte, and the first ones of the next
+-- eight bits zeroed: the last bits of one byte, and the first ones of the next
 pub eight-cleared : (l : List ℕ) (i : ℕ) → i / 8 + 1 < length l → Bytes l
-    → set (set l (i / 8) (bitXor (getD l (i / 8) 0) (getD l (i / 8) 0 % 2 ^ (8 - i % 8)))) (i / 8 + 1) (getD l (i / 8 + 1) 0 % 2 ^ (8 - i % 8)) ≡ cleared l i 8
+    → set (set l (i / 8) (bitXor (getD l (i / 8) 0) (getD l (i / 8) 0 % 2 ^ (8 - i % 8)))) (i / 8 + 1) (getD l (i / 8 + 1) 0 % 2 ^ (8 - i % 8)) ≡ zeroed l i 8
 eight-cleared l i h small =
     ap (λ (v : ℕ). set half (q + 1) (v % 2 ^ (8 - o))) (sym (getD-set-other l q (q + 1) _ 0 (λ e. omega (arith, e))))
     ∙ front-cleared half (q + 1) o (simp length-set h) (rw first (written-bytes nought nought-lt l (8 * q + o) 0 (8 - o))) (omega arith)
-    ∙ ap (λ (m : List ℕ). cleared m (8 * (q + 1)) o) first
-    ∙ ap (λ (m : ℕ). cleared (cleared l (8 * q + o) (8 - o)) m o) seam
+    ∙ ap (λ (m : List ℕ). zeroed m (8 * (q + 1)) o) first
+    ∙ ap (λ (m : ℕ). zeroed (zeroed l (8 * q + o) (8 - o)) m o) seam
     ∙ cleared-join l (8 * q + o) (8 - o) o
-    ∙ (λ w. cleared l (start w) (whole w))
+    ∙ (λ w. zeroed l (start w) (whole w))
   where
     q : ℕ
     q = i / 8
@@ -93,7 +93,7 @@ eight-cleared l i h small =
     half : List ℕ
     half = set l q (bitXor (getD l q 0) (getD l q 0 % 2 ^ (8 - o)))
 
-    first : half ≡ cleared l (8 * q + o) (8 - o)
+    first : half ≡ zeroed l (8 * q + o) (8 - o)
     first = back-cleared l q o (omega arith) small (omega arith)
 
     seam : 8 * (q + 1) ≡ 8 * q + o + (8 - o)
@@ -118,13 +118,13 @@ xored-more old s k from y v binary h g e =
     ∙ xored-join k binary old 0 from (8 * y) 8
     ∙ ap (xored old k 0 from) more)
 
-pub cleared-more : (old s : List ℕ) (y o v : ℕ) → y < length old → o ≤ 8 → s ≡ cleared old 0 (8 * y) → v ≡ getD s y 0 % 2 ^ (8 - o)
-    → set s y v ≡ cleared old 0 (8 * y + o)
+pub cleared-more : (old s : List ℕ) (y o v : ℕ) → y < length old → o ≤ 8 → s ≡ zeroed old 0 (8 * y) → v ≡ getD s y 0 % 2 ^ (8 - o)
+    → set s y v ≡ zeroed old 0 (8 * y + o)
 cleared-more old s y o v h fits g e =
     let start : 8 * y ≡ 0 + 8 * y = omega arith in
     rw (e, g)
-    (front-cleared (cleared old 0 (8 * y)) y o (rw length-written h) (written-bytes nought nought-lt old 0 0 (8 * y)) fits
-    ∙ ap (λ (m : ℕ). cleared (cleared old 0 (8 * y)) m o) start
+    (front-cleared (zeroed old 0 (8 * y)) y o (rw length-written h) (written-bytes nought nought-lt old 0 0 (8 * y)) fits
+    ∙ ap (λ (m : ℕ). zeroed (zeroed old 0 (8 * y)) m o) start
     ∙ cleared-join old 0 (8 * y) o)
 
 -- the power of 2 that a shift gives

@@ -7,7 +7,7 @@ use borrow.Author.Tests.{lt-ltb, le-ltb, le-leb, lt-leb}
 use lib.Bits.{bitXor, xor-lt, xor-zero-l}
 use Rattle.laws.proofs.Cases.{lt-or-le}
 use Rattle.laws.proofs.Xor.{xor-back}
-use Rattle.span.specs.Span.{within, spanBit, putBit, nought}
+use Rattle.span.specs.Span.{inRun, spanBit, putBit, nought}
 
 -- a stream of bits
 abbrev pub Binary : (ℕ → ℕ) → Type 0
@@ -17,12 +17,12 @@ Binary k = (i : ℕ) → k i < 2
 abbrev pub Beside : ℕ → ℕ → ℕ → Type 0
 Beside off n j = off ≤ j → off + n ≤ j
 
-pub within-in : (off n j a b : ℕ) → off ≤ j → j < off + n → within off n j a b ≡ a
-unfolding within
+pub within-in : (off n j a b : ℕ) → off ≤ j → j < off + n → inRun off n j a b ≡ a
+unfolding inRun
 within-in off n j a b h l = rw (le-leb off j h, lt-ltb j (off + n) l)
 
-pub within-out : (off n j a b : ℕ) → Beside off n j → within off n j a b ≡ b
-unfolding within
+pub within-out : (off n j a b : ℕ) → Beside off n j → inRun off n j a b ≡ b
+unfolding inRun
 within-out off n j a b h =
     ⊎-elim (λ u. rw (lt-leb off j u)) (λ u. rw (le-leb off j u, le-ltb j (off + n) (h u))) (lt-or-le j off)
 
@@ -35,27 +35,27 @@ in-or-out off n j inside beside =
     (lt-or-le j off)
 
 -- the same bit, inside and beside
-pub within-same : (off n j : ℕ) {a b c d : ℕ} → (off ≤ j → j < off + n → a ≡ c) → (Beside off n j → b ≡ d) → within off n j a b ≡ within off n j c d
+pub within-same : (off n j : ℕ) {a b c d : ℕ} → (off ≤ j → j < off + n → a ≡ c) → (Beside off n j → b ≡ d) → inRun off n j a b ≡ inRun off n j c d
 within-same off n j {a} {b} {c} {d} p q =
     in-or-out off n j
     (λ u v. within-in off n j a b u v ∙ p u v ∙ sym (within-in off n j c d u v))
     (λ u. within-out off n j a b u ∙ q u ∙ sym (within-out off n j c d u))
 
 -- a run after a run is one run
-pub within-join : (off n m j b : ℕ) {a c : ℕ} → (off + n ≤ j → c ≡ a) → within (off + n) m j c (within off n j a b) ≡ within off (n + m) j a b
+pub within-join : (off n m j b : ℕ) {a c : ℕ} → (off + n ≤ j → c ≡ a) → inRun (off + n) m j c (inRun off n j a b) ≡ inRun off (n + m) j a b
 within-join off n m j b {a} {c} e =
     in-or-out off n j
     (λ u v.
-    within-out (off + n) m j c (within off n j a b) (λ w. absurd (omega arith))
+    within-out (off + n) m j c (inRun off n j a b) (λ w. absurd (omega arith))
     ∙ within-in off n j a b u v
     ∙ sym (within-in off (n + m) j a b u (omega arith)))
     (λ h.
-    ap (within (off + n) m j c) (within-out off n j a b h)
+    ap (inRun (off + n) m j c) (within-out off n j a b h)
     ∙ in-or-out (off + n) m j
     (λ u v. within-in (off + n) m j c b u v ∙ e u ∙ sym (within-in off (n + m) j a b (omega arith) (omega arith)))
     (λ g. within-out (off + n) m j c b g ∙ sym (within-out off (n + m) j a b (λ w. omega (arith, g (h w))))))
 
-pub within-lt : (off n j : ℕ) {a b : ℕ} → a < 2 → b < 2 → within off n j a b < 2
+pub within-lt : (off n j : ℕ) {a b : ℕ} → a < 2 → b < 2 → inRun off n j a b < 2
 within-lt off n j {a} {b} ha hb =
     in-or-out off n j
     (λ u v. rw (within-in off n j a b u v) ha)

@@ -1,4 +1,4 @@
-// Runs of bits in a buffer: a run of a block's bits xored in a byte at a time, the front cleared, and the blocks that a run uses.
+// Runs of bits in a buffer: a run of a block's bits xored in a byte at a time, the front zeroed, and the blocks that a run uses.
 // Bit 0 of a byte is its most significant.
 ghost use mathlib.Core.List.{[], _∷_};
 ghost use mathlib.Core.Path.{_≡_};
@@ -6,7 +6,13 @@ ghost use Prim.Native.Nat.{_<_, _≤_, _+_, _-_, _*_, _/_, _%_, _^_};
 ghost use lib.Bits.{bitXor};
 ghost use lib.ListN.{length};
 ghost use Rattle.laws.specs.Bits.{bitAt, byteOfBits};
-ghost use Rattle.span.specs.Span.{xored, cleared, framed, blocksUsed};
+ghost use Rattle.span.specs.Span.{longestStream, xored, zeroed, framed, blocksUsed};
+
+// The longest buffer of a call, in bytes.
+pub const LONGEST_BUFFER: usize = 8192;
+
+// The most keystream of a call, in bits, with those that it skips.
+pub const LONGEST_STREAM: usize = 8288;
 
 // The last d bits of b.
 fn low_bits(b: u8, d: usize) -> u8
@@ -54,7 +60,7 @@ fn padded(k: [u8; 32]) -> [u8; 35]
 // Eight bits from bit i on become 0.
 fn clear_eight(z: &mut [u8], i: usize)
     requires { ⌜ i / 8 + 1 < length (now z) ⌝ }
-    ensures { λ _. ⌜ now (z .exit) ≡ cleared (now (z .entry)) i 8 ⌝ }
+    ensures { λ _. ⌜ now (z .exit) ≡ zeroed (now (z .entry)) i 8 ⌝ }
 {
     let q = i / 8;
     let o = i % 8;
@@ -67,7 +73,7 @@ fn clear_eight(z: &mut [u8], i: usize)
 // The padded block, with eight bits 0 on either side of the run of n bits from bit `from` of the block on.
 fn run_alone(k: [u8; 32], from: usize, n: usize) -> [u8; 35]
     requires { ⌜ from + n ≤ 256 ⌝ }
-    ensures { λ z. ⌜ z ≡ cleared (cleared (framed k) from 8) (from + n + 8) 8 ⌝ }
+    ensures { λ z. ⌜ z ≡ zeroed (zeroed (framed k) from 8) (from + n + 8) 8 ⌝ }
 {
     let mut z = padded(k);
     clear_eight(&mut z, from);
@@ -109,7 +115,7 @@ pub fn xor_block(s: &mut [u8], k: [u8; 32], at: usize, from: usize, n: usize)
 // Bits 0 to n - 1 of s become 0; every other bit stays.
 pub fn clear_front(s: &mut [u8], n: usize)
     requires { ⌜ n ≤ 8 * length (now s) ⌝ }
-    ensures { λ _. ⌜ now (s .exit) ≡ cleared (now (s .entry)) 0 n ⌝ }
+    ensures { λ _. ⌜ now (s .exit) ≡ zeroed (now (s .entry)) 0 n ⌝ }
 {
     let q = n / 8;
     let o = n % 8;
@@ -124,7 +130,7 @@ pub fn clear_front(s: &mut [u8], n: usize)
 
 // How many different blocks of 256 bits hold one of the n bits from `skip` on.
 pub fn blocks_used(skip: usize, n: usize) -> usize
-    requires { ⌜ skip + n ≤ 8288 ⌝ }
+    requires { ⌜ skip + n ≤ longestStream ⌝ }
     ensures { λ r. ⌜ r ≡ blocksUsed skip n ⌝ }
 {
     if n == 0 {

@@ -3,11 +3,11 @@ use libc::STDIN_FILENO;
 use libc::STDOUT_FILENO;
 ghost use Prim.Native.Nat.{_≤_};
 ghost use lib.ListN.{length};
-ghost use Rattle.cases.specs.Answer.{room};
+ghost use Rattle.cases.specs.Answer.{answerRoom};
 
 // One answer after the other, each by way of the lent buffer.
 fn answer_all(input: &[u8], out: &mut [u8])
-    requires { ⌜ room ≤ length (now out) ⌝ }
+    requires { ⌜ answerRoom ≤ length (now out) ⌝ }
 {
     let mut at = 0;
     while at < input.len() {

@@ -7,7 +7,7 @@ use borrow.Author.Needs.{needs}
 use borrow.Author.Tests.{not-true, not-false}
 use Rattle.records.proofs.Puts.{put-length, put-as}
 use Rattle.cases.specs.Case.{Accepted}
-use Rattle.cases.specs.Answer.{refusedText, room}
+use Rattle.cases.specs.Answer.{refusedText, answerRoom}
 use Rattle.cases.proofs.Texts.{text-unreadable, text-refused, text-accepted, accepted-fits, refused-fits}
 use Rattle.cases.proofs.put_case.Statement.{statement}
 use Rattle.cases.proofs.put_case.Tie as tie
@@ -17,7 +17,7 @@ returns c =
     let put = c .before .before .put-bytes .ensures in
     (omega (arith, put .ends), put-as (text-unreadable _ (sym (c .before .before .before .before .before .before .is-readable .ensures) ∙ not-true _ (c .before .before .before .before .before .if1 .taken))) put)
 
-short : (c : tie.After-case-refusal) → length (refusedText (c .case-refusal .result)) ≤ room
+short : (c : tie.After-case-refusal) → length (refusedText (c .case-refusal .result)) ≤ answerRoom
 short c = refused-fits (c .case-refusal .result) (omega arith)
 
 put-line-requires : tie.Need-put-line-requires

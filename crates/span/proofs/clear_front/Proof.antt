@@ -4,14 +4,14 @@ use Prim.Native.Nat.{_+_, _-_, _*_, _/_, _%_, _≤_}
 use native.Mathlib.Omega.{arith}
 use borrow.Author.Needs.{needs}
 use lib.ListN.{length, length-set}
-use Rattle.span.specs.Span.{cleared, nought}
+use Rattle.span.specs.Span.{zeroed, nought}
 use Rattle.span.proofs.Laws.{written-none}
 use Rattle.span.proofs.Stores.{cleared-more}
 use Rattle.span.proofs.clear_front.Statement.{statement}
 use Rattle.span.proofs.clear_front.Tie as tie
 
 abbrev Inv-loop : tie.InvT-loop
-Inv-loop s₀ n q o y₀ s y = (y ≤ q) × (length s ≡ length s₀) × (s ≡ cleared s₀ 0 (8 * y))
+Inv-loop s₀ n q o y₀ s y = (y ≤ q) × (length s ≡ length s₀) × (s ≡ zeroed s₀ 0 (8 * y))
 
 abbrev μ-loop : tie.MeasureT-loop
 μ-loop s₀ n q o y₀ s y = q - y
@@ -27,13 +27,13 @@ loop-again c =
     let more : 8 * l .y + 8 ≡ 8 * (l .y + 1) = omega arith in (
       search needs,
       simp length-set (l .inv .1),
-      cleared-more old (l .s) (l .y) 8 0 (omega arith) (omega arith) (l .inv .2) (omega arith) ∙ ap (cleared old 0) more,
+      cleared-more old (l .s) (l .y) 8 0 (omega arith) (omega arith) (l .inv .2) (omega arith) ∙ ap (zeroed old 0) more,
     )
 
 returns : tie.Need-returns Inv-loop μ-loop
 returns c =
     let all : 8 * c .before .before .loop .y ≡ c .before .before .before .before .args .n = omega arith in
-    c .before .before .loop .inv .2 ∙ ap (cleared _ 0) all
+    c .before .before .loop .inv .2 ∙ ap (zeroed _ 0) all
 
 returns-2 : tie.Need-returns-2 Inv-loop μ-loop
 returns-2 c =
@@ -44,7 +44,7 @@ returns-2 c =
     let y : l .y ≡ n / 8 = omega arith in
     let all : 8 * (n / 8) + n % 8 ≡ n = omega arith in
     cleared-more old (l .s) (n / 8) (n % 8) (c .first-off .result) (omega arith) (omega arith) (rw y at (l .inv .2)) (c .first-off .ensures)
-    ∙ ap (cleared old 0) all
+    ∙ ap (zeroed old 0) all
 
 pub clear-front-spec : {M : Type 1} → statement M
 clear-front-spec =

@@ -1,9 +1,9 @@
--- The framed block, cleared before the run and after it. Assumes nothing.
+-- The framed block, zeroed before the run and after it. Assumes nothing.
 use mathlib.Core.Path.{ap, _∙_}
 use mathlib.Core.List.{List}
 use Prim.Native.Nat.{ℕ, _+_}
 use borrow.Author.Needs.{needs}
-use Rattle.span.specs.Span.{cleared}
+use Rattle.span.specs.Span.{zeroed}
 use Rattle.span.proofs.run_alone.Statement.{statement}
 use Rattle.span.proofs.run_alone.Tie as tie
 
@@ -14,7 +14,7 @@ returns c =
     let made = first .before .before in
     let a = made .before .args in
     second .clear-eight2 .ensures
-    ∙ ap (λ (l : List ℕ). cleared l (a .from + a .n + 8) 8) (first .clear-eight .ensures ∙ ap (λ (l : List ℕ). cleared l (a .from) 8) (made .padded .ensures))
+    ∙ ap (λ (l : List ℕ). zeroed l (a .from + a .n + 8) 8) (first .clear-eight .ensures ∙ ap (λ (l : List ℕ). zeroed l (a .from) 8) (made .padded .ensures))
 
 pub run-alone-spec : {M : Type 1} → statement M
 run-alone-spec =

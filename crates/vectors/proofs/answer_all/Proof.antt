@@ -5,7 +5,7 @@ use native.Mathlib.Omega.{arith}
 use lib.ListN.{length}
 use lib.Seq.{length-take-le}
 use borrow.Author.Needs.{needs}
-use Rattle.cases.specs.Answer.{room}
+use Rattle.cases.specs.Answer.{answerRoom}
 use Rattle.cases.proofs.Pieces.{step-within, step-some}
 use Rattle.cases.proofs.Texts.{answered}
 use Rattle.vectors.proofs.answer_all.Statement.{statement}
@@ -17,7 +17,7 @@ Inv-loop input out₀ at₀ out at = (at ≤ length input) × (length out ≡ le
 abbrev μ-loop : tie.MeasureT-loop
 μ-loop input out₀ at₀ out at = length input - at
 
-large : (c : tie.At-loop Inv-loop μ-loop) → room ≤ length (c .loop .out)
+large : (c : tie.At-loop Inv-loop μ-loop) → answerRoom ≤ length (c .loop .out)
 large c = omega (arith, c .loop .inv .1, c .before .before .before .pre)
 
 -- a line takes some bytes, and lies within the input

@@ -7,6 +7,7 @@ use borrow.Author.Tests.{eq-eqb, ne-eqb}
 use Rattle.span.specs.Span.{written}
 use Rattle.keystream.specs.Stream.{keystream}
 use Rattle.card.specs.Bench.{benchRefusal, benched, benchBlocks}
+use Rattle.card.proofs.Answers.{ciphered-is}
 use Rattle.card.proofs.Passed.{KeyedPassed, keyed-passed}
 use Rattle.card.proofs.bench.card_bench.Statement.{statement}
 use Rattle.card.proofs.bench.card_bench.Tie as tie
@@ -25,7 +26,7 @@ unfolding benched benchBlocks
 returns c =
     let e = c .before .bench-refusal .ensures in
     let no = ne-eqb _ 0 (λ z. c .if1 .taken (e ∙ z)) in
-    (e, rw no, rw no)
+    ciphered-is e (rw no) (rw no)
 
 key-of-requires : tie.Need-key-of-requires
 key-of-requires c κs = passed (c .before) .key-24
@@ -46,13 +47,12 @@ returns-2 c =
     let iv = ran .before in
     let e = iv .before .before .before in
     let a = start e .args in
-    let yes = eq-eqb (benchRefusal (a .algorithm) (a .key .now) (a .iv .now) (a .buf .now) (a .n)) 0 (accepted e) in (
-      sym (accepted e),
-      rw yes
-          (ran .write-keystream .ensures
-          ∙ (λ i. written (a .buf .now) (keystream (a .algorithm) (iv .before .key-of .ensures i) (iv .iv-of .ensures i)) 0 0 (a .n))),
-      rw yes (c .blocks-used .ensures),
-    )
+    let yes = eq-eqb (benchRefusal (a .algorithm) (a .key .now) (a .iv .now) (a .buf .now) (a .n)) 0 (accepted e) in
+    ciphered-is (sym (accepted e))
+    (rw yes
+    (ran .write-keystream .ensures
+    ∙ (λ i. written (a .buf .now) (keystream (a .algorithm) (iv .before .key-of .ensures i) (iv .iv-of .ensures i)) 0 0 (a .n))))
+    (rw yes (c .blocks-used .ensures))
 
 pub card-bench-spec : {M : Type 1} → statement M
 card-bench-spec =

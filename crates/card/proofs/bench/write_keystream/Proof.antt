@@ -15,7 +15,7 @@ returns c =
     let front = ran .before .before .before .before in
     let a = front .before .before .before .args in
     let k = keystream (a .algorithm) (a .ck) (a .iv) in
-    ran .xor-keystream .ensures
+    ran .cipher-from .ensures
     ∙ ap (λ (l : List ℕ). xored l k 0 0 (a .n)) (front .clear-front .ensures)
     ∙ xored-cleared (a .buf .now) k 0 0 (a .n)
 

@@ -9,6 +9,7 @@ use denote.Builtin.{bool}
 use denote.Plain.{bool-makes, bool-lawful}
 use Rattle.card.proofs.SlotLaws.{R, makes, typed, res-typed}
 use Rattle.card.proofs.SlotCalls.{IsNoTable, SlotIn, PutSlot, lent, slice, lends-ask, lends-take, puts-slot}
+use Rattle.card.proofs.Answers.{changed-is}
 use Rattle.card.proofs.SeenTables.{cleared-in}
 use Rattle.slots.proofs.clear_of as core
 use Rattle.slots.proofs.clear_of.Symbol as core-def
@@ -48,7 +49,7 @@ module _ {M : Type 1} (𝓤 : URA M) (H : Heap 𝓤) (A : Atoms 𝓤) (W : Given
   exits : (r : ℕ) (w : Val) (zs : List Slot) → (r ≡ clearedIn ys n .refusal) × (zs ≡ clearedIn ys n .table) → length zs ≡ length ys → Is u8 r (w ∷ []) → ent 𝓤 (sep 𝓤 (A .lft κ q) (sem 𝓤 H A (finally R γ zs))) (Post w)
   exits r w zs e l is =
       qed W (‵ (flft κ q) ∷ ‵ (finally R γ zs) ∷ []) ∵
-      suffices ! _ (ends-at 𝓤 H A f.ended stayed (f.clauses 𝓤 H A mem run) W (((κ, tt), (q, tt), tt, x, at), tt) w r (zs, (tt, tt)) (l, (tt, tt))) $ says ! e $
+      suffices ! _ (ends-at 𝓤 H A f.ended stayed (f.clauses 𝓤 H A mem run) W (((κ, tt), (q, tt), tt, x, at), tt) w r (zs, (tt, tt)) (l, (tt, tt))) $ says ! (changed-is (clearedIn ys n) e) $
       nothing ! $ move ! (1 ∷ 0 ∷ []) $ join ! $ frame ! $ owned ! u8 (Is u8) (uint-makes 𝓤 H A W w8) r (w ∷ []) is $
       nothing ! $ nothing ! $ fjoin ! $ move ! (2 ∷ 0 ∷ []) $ fjoin ! $ done !
 

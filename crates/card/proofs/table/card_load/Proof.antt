@@ -11,6 +11,7 @@ use Rattle.card.proofs.CallRules.{Of, calls-fn}
 use denote.Plain.{bool-lawful}
 use Rattle.card.proofs.SlotLaws.{R, typed, res-typed}
 use Rattle.card.proofs.SlotCalls.{IsNoTable, SlotIn, PutSlot, lent, slice, lends-ask, lends-take, puts-slot, with-seen}
+use Rattle.card.proofs.Answers.{changed-is}
 use Rattle.card.proofs.SeenTables.{loaded-in}
 use Rattle.card.proofs.table.load_from as core
 use Rattle.card.proofs.table.load_from.Symbol as core-def
@@ -67,7 +68,7 @@ module _ {M : Type 1} (𝓤 : URA M) (H : Heap 𝓤) (A : Atoms 𝓤) (W : Given
   exits : (r : ℕ) (w : Val) (zs : List Slot) → (r ≡ loadedIn ys n a ks .refusal) × (zs ≡ loadedIn ys n a ks .table) → length zs ≡ length ys → Is u8 r (w ∷ []) → ent 𝓤 (⋆ 𝓤 H A (‵ (flft κ q) ∷ ‵ (finally R γ zs) ∷ (‵ (flft λ′ p) ⊛ ‵ ftrue) ∷ [])) (Post w)
   exits r w zs e l is =
       qed W (‵ (flft κ q) ∷ ‵ (finally R γ zs) ∷ (‵ (flft λ′ p) ⊛ ‵ ftrue) ∷ []) ∵
-      suffices ! _ (ends-at 𝓤 H A f.ended stayed (f.clauses 𝓤 H A mem run) W (((κ, (λ′, tt)), (q, (p, tt)), tt, x, at), tt) w r (zs, (tt, (tt, (tt, (tt, (tt, (tt, (tt, tt)))))))) (l, (tt, (tt, (tt, (tt, (tt, (tt, (tt, tt))))))))) $ says ! e $
+      suffices ! _ (ends-at 𝓤 H A f.ended stayed (f.clauses 𝓤 H A mem run) W (((κ, (λ′, tt)), (q, (p, tt)), tt, x, at), tt) w r (zs, (tt, (tt, (tt, (tt, (tt, (tt, (tt, tt)))))))) (l, (tt, (tt, (tt, (tt, (tt, (tt, (tt, tt))))))))) $ says ! (changed-is (loadedIn ys n a ks) e) $
       move ! (0 ∷ 2 ∷ []) $ join ! $ frame ! $ owned ! u8 (Is u8) (uint-makes 𝓤 H A W w8) r (w ∷ []) is $
       nothing ! $ nothing ! $ fjoin ! $ nothing ! $ fjoin ! $ nothing ! $ fjoin ! $ nothing ! $ fjoin ! $ nothing ! $ fjoin ! $ nothing ! $ fjoin ! $ nothing ! $ fjoin ! $ move ! (2 ∷ 0 ∷ []) $ fjoin ! $ done !
 

@@ -10,6 +10,7 @@ use denote.Builtin.{bool}
 use denote.Plain.{bool-makes, bool-lawful}
 use Rattle.card.proofs.SlotLaws.{R, makes, typed, Res, res-makes, res-typed}
 use Rattle.card.proofs.SlotCalls.{IsNoTable, SlotIn, PutSlot, lent, slice, lends-ask, lends-take, lends-put, puts-slot}
+use Rattle.card.proofs.Answers.{changed-is}
 use Rattle.card.proofs.SeenTables.{moved-in}
 use Rattle.slots.proofs.emptied as emptied
 use Rattle.slots.proofs.emptied.Symbol as emptied-def
@@ -60,7 +61,7 @@ module _ {M : Type 1} (𝓤 : URA M) (H : Heap 𝓤) (A : Atoms 𝓤) (W : Given
   exits : (r : ℕ) (w : Val) (zs : List Slot) → (r ≡ movedIn ys i j n .refusal) × (zs ≡ movedIn ys i j n .table) → length zs ≡ length ys → Is u8 r (w ∷ []) → ent 𝓤 (sep 𝓤 (A .lft κ q) (sem 𝓤 H A (finally R γ zs))) (Post w)
   exits r w zs e l is =
       qed W (‵ (flft κ q) ∷ ‵ (finally R γ zs) ∷ []) ∵
-      suffices ! _ (ends-at 𝓤 H A f.ended stayed (f.clauses 𝓤 H A mem run) W (((κ, tt), (q, tt), tt, x, at), tt) w r (zs, (tt, (tt, (tt, tt)))) (l, (tt, (tt, (tt, tt))))) $ says ! e $
+      suffices ! _ (ends-at 𝓤 H A f.ended stayed (f.clauses 𝓤 H A mem run) W (((κ, tt), (q, tt), tt, x, at), tt) w r (zs, (tt, (tt, (tt, tt)))) (l, (tt, (tt, (tt, tt))))) $ says ! (changed-is (movedIn ys i j n) e) $
       nothing ! $ move ! (1 ∷ 0 ∷ []) $ join ! $ frame ! $ owned ! u8 (Is u8) (uint-makes 𝓤 H A W w8) r (w ∷ []) is $
       nothing ! $ nothing ! $ fjoin ! $ nothing ! $ fjoin ! $ nothing ! $ fjoin ! $ move ! (2 ∷ 0 ∷ []) $ fjoin ! $ done !
 

@@ -10,6 +10,7 @@ use Rattle.card.proofs.CallRules.{Of, calls-fn}
 use Rattle.card.proofs.SlotLaws.{R, typed}
 use denote.Plain.{bool-lawful}
 use Rattle.card.proofs.SlotCalls.{IsNoTable, SlotIn, lent, slice, asks-table, takes-slot, with-seen}
+use Rattle.card.proofs.Answers.{ciphered-is}
 use Rattle.card.proofs.SeenTables.{traffic-in}
 use Rattle.card.proofs.table.traffic_from as core
 use Rattle.card.proofs.table.traffic_from.Symbol as core-def
@@ -79,7 +80,7 @@ module _ {M : Type 1} (𝓤 : URA M) (H : Heap 𝓤) (A : Atoms 𝓤) (W : Given
       qed W (Has ws) ∵ move ! (1 ∷ []) $ fsplit ! $ drop ! $ fsplit ! $ drop ! $ fsplit ! $ drop ! $ fsplit ! $ drop ! $ fsplit ! $ drop ! $ fsplit ! $ fsplit ! $ move ! (1 ∷ []) $ feqL ! (λ l.
       -- [the last bytes; the last values of the others; the tokens]
       suffices ! _ (ends-at 𝓤 H A f.ended stayed (f.clauses 𝓤 H A mem run) W (((κ, (λ′, tt)), (q, (p, tt)), tt, x, at), tt) w r (ws .1) (tt, (tt, (tt, (tt, (l, (tt, (tt, (tt, (tt, tt)))))))))) $
-      says ! (traffic-in ys number direction (iv .now) (buf .now) start n skip r (ws .1 .1 .1 .1 .1 .0) (ws .1 .1 .1 .1 .1 .1 .1 .1 .1 .0) e) $
+      says ! (let s = traffic-in ys number direction (iv .now) (buf .now) start n skip r (ws .1 .1 .1 .1 .1 .0) (ws .1 .1 .1 .1 .1 .1 .1 .1 .1 .0) e in ciphered-is (s .0) (s .1) (s .2)) $
       move ! (2 ∷ []) $ frame ! $ fjoin ! $ nothing ! $ fjoin ! $ nothing ! $ fjoin ! $ nothing ! $ fjoin ! $ nothing ! $ fjoin ! $ owned ! u8 (Is u8) (uint-makes 𝓤 H A W w8) r (w ∷ []) is $ move ! (1 ∷ 0 ∷ []) $ done !)
 
   -- what the core's triple binds outside

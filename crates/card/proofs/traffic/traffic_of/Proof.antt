@@ -33,8 +33,8 @@ returns c =
 iv-of-requires : tie.Need-iv-of-requires
 iv-of-requires c κs = passed (c .before .before .before .before) .allowed .iv-10
 
-xor-keystream-requires : tie.Need-xor-keystream-requires
-xor-keystream-requires c κs = let s = passed (c .before .before .before .before .before) .span in (s .small, omega arith, omega arith)
+cipher-from-requires : tie.Need-cipher-from-requires
+cipher-from-requires c κs = let s = passed (c .before .before .before .before .before) .span in (s .small, omega arith, omega arith)
 
 blocks-used-requires : tie.Need-blocks-used-requires
 blocks-used-requires c κs = let s = passed (c .before .before .before .before .before .before .before .before) .span in omega arith
@@ -50,7 +50,7 @@ returns-2 c =
       e .before .traffic-refusal .ensures,
       rw yes (c .blocks-used .ensures),
       rw yes
-          (ran .xor-keystream .ensures
+          (ran .cipher-from .ensures
           ∙ (λ i. xored (a .buf .now) (keystream (a .slot .fields .algorithm) (a .slot .key) (iv .iv-of .ensures i)) (a .start) (a .skip) (a .n))),
     )
 
@@ -58,5 +58,5 @@ pub traffic-of-spec : {M : Type 1} → statement M
 traffic-of-spec =
     tie.close
     (tie.spec
-    (λ c κs. search needs) (λ c. search needs) returns (λ c. search needs) iv-of-requires xor-keystream-requires blocks-used-requires
+    (λ c κs. search needs) (λ c. search needs) returns (λ c. search needs) iv-of-requires cipher-from-requires blocks-used-requires
     (λ c. search needs) returns-2)

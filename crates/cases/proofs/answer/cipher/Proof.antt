@@ -25,9 +25,9 @@ read : (c : tie.After-read-bytes) → c .read-bytes .last .1 .0 ≡ caseOf (c .b
 unfolding caseOf
 read c = c .read-bytes .ensures ∙ ap bytesOf (c .before .before .after-spaces .ensures)
 
-xor-keystream-requires : tie.Need-xor-keystream-requires
+cipher-from-requires : tie.Need-cipher-from-requires
 unfolding caseOf
-xor-keystream-requires c κs =
+cipher-from-requires c κs =
     let size = ap length (read (c .before .before .before)) in
     let span = passed (c .before .before .before .before .before .before .before .before .before .before .before .before .before .before .pre .0) .span in
     let start = c .before .before .before .before .before .before .before .before .before .before .value2 .ensures in
@@ -38,7 +38,7 @@ xor-keystream-requires c κs =
 returns : tie.Need-returns
 unfolding ciphered caseOf
 returns c =
-    c .before .before .xor-keystream .ensures
+    c .before .before .cipher-from .ensures
     ∙ (λ i.
     xored
     (read (c .before .before .before .before .before .before) i)
@@ -59,6 +59,6 @@ cipher-spec =
     (λ c κs. search needs)
     (λ c κs. search needs)
     read-bytes-requires
-    xor-keystream-requires
+    cipher-from-requires
     (λ c. search needs)
     returns)
