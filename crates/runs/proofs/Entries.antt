@@ -91,16 +91,16 @@ module _ {M : Type 1} (𝓤 : URA M) (H : Heap 𝓤) (A : Atoms 𝓤) (mem : Mem
   Steps x = length (before x) ≡ 32 → ent 𝓤 (promised x) (fact 𝓤 (left x ≡ step ourCard (before x) (called x)))
 
   pub card-load-steps : (m : Made entry-load.ended) → Steps (card-load m)
-  card-load-steps m whole = fact-mono 𝓤 _ _ (λ e. (λ i. changing (record { refusal = e .0 i; table = e .1 i })) ∙ lent-load-steps _ whole _ _ _)
+  card-load-steps m whole = fact-mono 𝓤 _ _ (λ e. (λ i. changing (e i)) ∙ lent-load-steps _ whole _ _ _)
 
   pub card-move-steps : (m : Made entry-move.ended) → Steps (card-move m)
-  card-move-steps m whole = fact-mono 𝓤 _ _ (λ e. (λ i. changing (record { refusal = e .0 i; table = e .1 i })) ∙ lent-move-steps _ whole _ _ _)
+  card-move-steps m whole = fact-mono 𝓤 _ _ (λ e. (λ i. changing (e i)) ∙ lent-move-steps _ whole _ _ _)
 
   pub card-clear-steps : (m : Made entry-clear.ended) → Steps (card-clear m)
-  card-clear-steps m whole = fact-mono 𝓤 _ _ (λ e. (λ i. changing (record { refusal = e .0 i; table = e .1 i })) ∙ lent-clear-steps _ whole _)
+  card-clear-steps m whole = fact-mono 𝓤 _ _ (λ e. (λ i. changing (e i)) ∙ lent-clear-steps _ whole _)
 
   pub card-read-steps : (m : Made entry-read.ended) → Steps (card-read m)
   card-read-steps m whole = fact-mono 𝓤 _ _ (λ e. (λ i. reading (before (card-read m)) (e i)) ∙ lent-read-steps _ whole _)
 
   pub card-traffic-steps : (m : Made entry-traffic.ended) → Steps (card-traffic m)
-  card-traffic-steps m whole = fact-mono 𝓤 _ _ (λ e. (λ i. ciphering (before (card-traffic m)) (e .0 i) (e .2 i) (e .1 i)) ∙ lent-traffic-steps _ whole _ _ _ _ _ _ _)
+  card-traffic-steps m whole = fact-mono 𝓤 _ _ (λ e. (λ i. ciphering (before (card-traffic m)) (e i .refusal) (e i .blocks) (e i .buffer)) ∙ lent-traffic-steps _ whole _ _ _ _ _ _ _)
