@@ -151,7 +151,9 @@ size_t card_slotlist(const uint8_t *sheet, size_t sheet_bytes, uint8_t *buffer, 
 
 /* Which bits of a direct mode PDU are ciphered. kind: 1 DMAC-DATA, 2 DMAC-SYNC on SCH/H, 3 DMAC-SYNC on SCH/S; state:
    0..3; flag: the fragmentation flag, 0 or 1; the PDU's length, and where its address and its DM-SDU start, in bits
-   from 0. `pieces` becomes start, length and skip of the first piece and of the second; zeros where there is none.
+   from 0. `pieces` becomes start, length and skip of the first piece and of the second; zeros where there is none. In
+   state 3 the DM-SDU's skip is 24 + n + 1, with n the bits between the address and it, and a plan that would need
+   keystream bit 8,288 is refused with 19.
    Refused: 18, 19. */
 uint8_t card_plan(uint64_t kind, uint64_t state, uint64_t flag, size_t length, size_t address, size_t sdu,
                   size_t pieces[6]);

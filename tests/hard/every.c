@@ -146,7 +146,7 @@ static void every_record_length(void)
 /* Address and SDU beside each other, over each other, and in PDUs of every edge. */
 static void every_plan(void)
 {
-    static const uint64_t edges[] = {0, 9, 10, 12, 18, 24, 25, 8288, 8289, UINT64_MAX - 23, UINT64_MAX};
+    static const uint64_t edges[] = {0, 1, 9, 10, 12, 18, 24, 25, 8287, 8288, 8289, UINT64_MAX - 23, UINT64_MAX};
     enum { EDGES = sizeof edges / sizeof edges[0] };
 
     begin(PLAN);

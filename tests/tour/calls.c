@@ -1,4 +1,4 @@
-/* The calls of card.h that the tour leaves out, with the record and the plan of document 01. */
+/* The calls of card.h that the tour leaves out, with the record of document 01 and the plan of request [3]. */
 #include "card.h"
 #include <stdio.h>
 #include <string.h>

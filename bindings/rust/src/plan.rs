@@ -19,7 +19,8 @@ pub struct Pdu {
     pub sdu: usize,
 }
 
-/// The pieces of a PDU that are ciphered, in order.
+/// The pieces of a PDU that are ciphered, in order. In state 3 the DM-SDU starts at keystream bit 24 + n + 1, with n the
+/// bits between the address and it, and a plan that would need keystream bit 8,288 is refused with 19.
 ///
 /// Refused: 18, 19.
 ///
@@ -30,7 +31,7 @@ pub struct Pdu {
 /// let pdu = Pdu { kind, state: 3, flag: false, length: 124, address: 10, sdu: 50 };
 /// let pieces: Vec<Span> = plan(&pdu)?.into_iter().flatten().collect();
 /// assert_eq!(pieces[0], Span { start: 10, length: 24, skip: 0 });
-/// assert_eq!(pieces[1], Span { start: 50, length: 74, skip: 40 });
+/// assert_eq!(pieces[1], Span { start: 50, length: 74, skip: 41 });
 /// # Ok::<(), card::Refusal>(())
 /// ```
 ///

@@ -1,6 +1,6 @@
 //! Which bits of a PDU are ciphered, as the second program says.
 
-use card::{plan, Algorithm, Direction, Fields, Pdu, PduKind, Span, Table, Use};
+use card::{plan, Algorithm, Direction, Fields, Pdu, PduKind, Refusal, Span, Table, Use};
 
 fn span((start, length, skip): (usize, usize, usize)) -> Option<Span> {
     Some(Span {
@@ -11,7 +11,7 @@ fn span((start, length, skip): (usize, usize, usize)) -> Option<Span> {
 }
 
 #[test]
-fn state_3_has_the_pieces_of_document_01() {
+fn state_3_has_the_pieces_of_request_3() {
     let pdu = Pdu {
         kind: PduKind::DmacData,
         state: 3,
@@ -20,7 +20,7 @@ fn state_3_has_the_pieces_of_document_01() {
         address: 10,
         sdu: 50,
     };
-    assert_eq!(plan(&pdu), Ok([span((10, 24, 0)), span((50, 74, 40))]));
+    assert_eq!(plan(&pdu), Ok([span((10, 24, 0)), span((50, 74, 41))]));
     assert_eq!(
         plan(&Pdu { sdu: 124, ..pdu }),
         Ok([span((10, 24, 0)), None])
@@ -28,8 +28,37 @@ fn state_3_has_the_pieces_of_document_01() {
     assert_eq!(plan(&Pdu { state: 0, ..pdu }), Ok([None, None]));
 }
 
+/// The DM-SDU of the longest PDU can need one keystream bit more than there are.
+#[test]
+fn state_3_does_not_reach_past_the_keystream() {
+    let longest = Pdu {
+        kind: PduKind::DmacData,
+        state: 3,
+        flag: false,
+        length: 8288,
+        address: 0,
+        sdu: 24,
+    };
+    assert_eq!(plan(&longest), Err(Refusal::PduParts));
+    assert_eq!(
+        plan(&Pdu {
+            sdu: 8288,
+            ..longest
+        }),
+        Ok([span((0, 24, 0)), None])
+    );
+    assert_eq!(
+        plan(&Pdu {
+            address: 1,
+            sdu: 25,
+            ..longest
+        }),
+        Ok([span((1, 24, 0)), span((25, 8263, 25))])
+    );
+}
+
 /// Lengths and places at the edges.
-const PLACES: [usize; 13] = [
+const PLACES: [usize; 15] = [
     0,
     1,
     9,
@@ -40,8 +69,10 @@ const PLACES: [usize; 13] = [
     34,
     124,
     432,
+    8287,
     8288,
     8289,
+    usize::MAX - 23,
     usize::MAX,
 ];
 
@@ -131,8 +162,9 @@ fn a_plan_is_carried_out_by_traffic() {
     let mut keystream = [0; 16];
     second::card::bench(7, &[5; 24], &[0; 10], &mut keystream, 124);
     let bit = |bytes: &[u8], place: usize| bytes[place / 8] >> (7 - place % 8) & 1;
-    for place in (10..34).chain(50..124) {
-        expected[place / 8] |= bit(&keystream, place - 10) << (7 - place % 8);
+    let skips = (10..34).zip(0..).chain((50..124).zip(41..));
+    for (place, skip) in skips {
+        expected[place / 8] |= bit(&keystream, skip) << (7 - place % 8);
     }
     assert_eq!(buffer, expected);
 }

@@ -264,6 +264,14 @@ fn plans(reached: &mut Reached) {
     case(
         19,
         Pdu {
+            length: 8288,
+            address: 0,
+            ..good
+        },
+    );
+    case(
+        19,
+        Pdu {
             address: usize::MAX,
             ..good
         },

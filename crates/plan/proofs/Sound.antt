@@ -2,7 +2,7 @@
 -- of as many bits; a refused plan has no piece. Assumes nothing.
 use mathlib.Core.Bool.{Bool, false, _||_}
 use mathlib.Core.Path.{_≡_, refl, sym, _∙_}
-use Prim.Native.Nat.{ℕ, _+_, _<_, _≤_}
+use Prim.Native.Nat.{ℕ, _+_, _-_, _<_, _≤_}
 use native.Mathlib.Omega.{arith}
 use lib.Dec.{eqb, ltb}
 use borrow.Author.Tests.{ltb-true, ltb-false, eqb-true, eqb-false, eq-eqb, ne-eqb}
@@ -10,7 +10,7 @@ use Rattle.laws.proofs.Cases.{neither, pick-cases, pick-both, pick-else}
 use Rattle.refusals.specs.Numbers.{done}
 use Rattle.plan.specs.declared.Piece.{Piece}
 use Rattle.plan.specs.declared.Plan.{Plan}
-use Rattle.plan.specs.Plan.{syncOnSchS, longestPdu, addressBits, noPiece, restFrom, addressFrom, byCase, clearHead, secondSkip, codesUnknown, partsDontFit, planRefusal, refused, plannedPieces, planOf}
+use Rattle.plan.specs.Plan.{syncOnSchS, longestPdu, addressBits, noPiece, restFrom, addressFrom, byCase, clearHead, secondSkip, keystreamBits, pastKeystream, codesUnknown, partsDontFit, planRefusal, refused, plannedPieces, planOf}
 
 -- a piece of a buffer of l bits that traffic accepts: not empty, within the buffer, and within the keystream
 pub record Taken (l : ℕ) (p : Piece) : Type 0 where
@@ -61,11 +61,12 @@ rest-sound from l h =
 address-taken : (l a s : ℕ) → l ≤ longestPdu → a + addressBits ≤ s → s ≤ l → Taken l (addressFrom a)
 address-taken l a s h p q = record { some = omega arith; inside = omega arith; streamed = omega arith }
 
-both-sound : (l a s : ℕ) → l ≤ longestPdu → a + addressBits ≤ s → s ≤ l → Sound l (addressFrom a) (restFrom s l (secondSkip a s))
-both-sound l a s h p q =
+both-sound : (l a s : ℕ) → l ≤ longestPdu → a + addressBits ≤ s → s ≤ l → pastKeystream l a s ≡ false → Sound l (addressFrom a) (restFrom s l (secondSkip a s))
+both-sound l a s h p q within =
     pick-cases (Sound l (addressFrom a)) (ltb s l)
     (λ e.
     let f : s < l = ltb-true s l e in
+    let m = ltb-false keystreamBits (secondSkip a s + (l - s)) (rw e at within) in
     two (address-taken l a s h p q) (record { some = omega arith; inside = omega arith; streamed = omega arith })
     (record { bits = p; stream = omega arith }))
     (λ e. one (address-taken l a s h p q))
@@ -81,8 +82,9 @@ module _ (kind state flag l a s : ℕ) where
       (λ e. (refl, rest-sound (clearHead kind flag) l m))
       (λ e. (refl, rest-sound s l m))
       (λ e.
-      let n = neither (ltb s (a + addressBits)) (ltb l s) e in
-      (refl, both-sound l a s m (ltb-false s (a + addressBits) (n .0)) (ltb-false l s (n .1))))
+      let f = neither (ltb s (a + addressBits) || ltb l s) (pastKeystream l a s) e in
+      let n = neither (ltb s (a + addressBits)) (ltb l s) (f .0) in
+      (refl, both-sound l a s m (ltb-false s (a + addressBits) (n .0)) (ltb-false l s (n .1)) (f .1)))
       (passed kind state flag l a s h .1)
 
   -- the number that a plan gives is its refusal

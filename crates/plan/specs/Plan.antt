@@ -1,7 +1,7 @@
 -- Which bits of a direct mode PDU are ciphered, and by which keystream bits: document 01, "Plan of a direct mode PDU"; document 002, clause 6.3.2.1.
 -- l is the PDU's length L in bits, a is where its destination address starts and s where its DM-SDU starts, counted from 0.
 -- Assumes nothing: these are definitions.
-use mathlib.Core.Bool.{Bool, false, _||_}
+use mathlib.Core.Bool.{Bool, false, _&&_, _||_}
 use Prim.Native.Nat.{ℕ, _+_, _-_}
 use lib.Dec.{ltb, eqb}
 use Rattle.laws.specs.Choice.{pick}
@@ -48,23 +48,31 @@ byCase kind state clear one two three =
 abbrev pub clearHead : ℕ → ℕ → ℕ
 clearHead kind flag = pick (eqb kind dmacData) 10 (pick (eqb flag 1) 18 12)
 
--- the skip of the second piece in state 3: 24 + n, with n = s - a - 24 the bits between the address and the DM-SDU. Document 002 (6.3.2.1.1,
--- 6.3.2.1.2) prints KSS(24, .., 24+n) as discarded; document 01 reads that as n keystream bits passed over.
+-- the skip of the second piece in state 3: 24 + n + 1, with n = s - a - 24 the bits between the address and the DM-SDU (document 02, [3]; 002,
+-- 6.3.2.1.1 and 6.3.2.1.2: KSS(24, .., 24+n) is discarded, and the DM-SDU starts at KSS(24+n+1))
 abbrev pub secondSkip : ℕ → ℕ → ℕ
-secondSkip a s = addressBits + (s - a - addressBits)
+secondSkip a s = addressBits + (s - a - addressBits) + 1
+
+-- keystream bits that a call can reach, its skip included
+abbrev pub keystreamBits : ℕ
+keystreamBits = 8288
+
+-- the second piece in state 3 is not left out, and its skip and length are above that (document 02, [3])
+abbrev pub pastKeystream : ℕ → ℕ → ℕ → Bool
+pastKeystream l a s = ltb s l && ltb keystreamBits (secondSkip a s + (l - s))
 
 -- 18: kind not 1..3, state not 0..3, flag not 0 or 1, or L above 8,288
 abbrev pub codesUnknown : ℕ → ℕ → ℕ → ℕ → Bool
 codesUnknown kind state flag l = eqb kind 0 || ltb 3 kind || ltb 3 state || ltb 1 flag || ltb longestPdu l
 
--- 19: in state 1, L below the head; in state 2, s above L; in state 3, unless a + 24 <= s <= L
+-- 19: in state 1, L below the head; in state 2, s above L; in state 3, unless a + 24 <= s <= L, and then if the keystream is too short
 abbrev pub partsDontFit : ℕ → ℕ → ℕ → ℕ → ℕ → ℕ → Bool
 partsDontFit kind state flag l a s =
     byCase kind state
     false
     (ltb l (clearHead kind flag))
     (ltb l s)
-    (ltb s (a + addressBits) || ltb l s)
+    (ltb s (a + addressBits) || ltb l s || pastKeystream l a s)
 
 -- the order: 18, 19
 unfoldable pub planRefusal : ℕ → ℕ → ℕ → ℕ → ℕ → ℕ → ℕ

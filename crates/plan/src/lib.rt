@@ -3,7 +3,7 @@ ghost use mathlib.Core.Path.{_≡_};
 ghost use Prim.Native.Nat.{_+_, _≤_};
 ghost use lib.Dec.{ltb};
 ghost use Rattle.refusals.specs.Numbers.{done};
-ghost use Rattle.plan.specs.Plan.{addressBits, restFrom, addressFrom, clearHead, secondSkip, codesUnknown, partsDontFit, planRefusal, accepted, refused, plannedPieces, planOf};
+ghost use Rattle.plan.specs.Plan.{addressBits, restFrom, addressFrom, clearHead, secondSkip, longestPdu, pastKeystream, codesUnknown, partsDontFit, planRefusal, accepted, refused, plannedPieces, planOf};
 use refusals::DONE;
 use refusals::PDU_CODE;
 use refusals::PDU_PARTS;
@@ -16,6 +16,8 @@ const SYNC_ON_SCH_S: u64 = 3;
 const LONGEST_PDU: usize = 8288;
 
 const ADDRESS_BITS: usize = 24;
+
+const KEYSTREAM_BITS: usize = 8288;
 
 // PDU bit start + i is ciphered by keystream bit skip + i, for i below length.
 pub struct Piece {
@@ -103,10 +105,18 @@ fn starts_early(address: usize, sdu: usize) -> bool
 
 // The keystream bit at which the DM-SDU starts in state 3.
 fn second_skip(address: usize, sdu: usize) -> usize
-    requires { ⌜ address + addressBits ≤ sdu ⌝ }
+    requires { ⌜ (address + addressBits ≤ sdu) × (sdu ≤ longestPdu) ⌝ }
     ensures { λ r. ⌜ r ≡ secondSkip address sdu ⌝ }
 {
-    ADDRESS_BITS + (sdu - address - ADDRESS_BITS)
+    ADDRESS_BITS + (sdu - address - ADDRESS_BITS) + 1
+}
+
+// The DM-SDU needs a keystream bit past the last. Its skip and its bits are length - address + 1 together, compared without that sum.
+fn past_keystream(length: usize, address: usize, sdu: usize) -> bool
+    requires { ⌜ (address + addressBits ≤ sdu) × (sdu ≤ length) ⌝ }
+    ensures { λ r. ⌜ r ≡ pastKeystream length address sdu ⌝ }
+{
+    sdu < length && KEYSTREAM_BITS <= length - address
 }
 
 // `|` and not `||`: the tests of one number have no order.
@@ -135,7 +145,10 @@ fn parts_dont_fit(
     if state == 2 {
         return length < sdu;
     }
-    starts_early(address, sdu) | (length < sdu)
+    if starts_early(address, sdu) | (length < sdu) {
+        return true;
+    }
+    past_keystream(length, address, sdu)
 }
 
 fn plan_refusal(kind: u64, state: u64, flag: u64, length: usize, address: usize, sdu: usize) -> u8

@@ -1,4 +1,4 @@
--- The values that document 01 marks P ("Values to hold"): one table. Assumes nothing: these are definitions.
+-- The values that document 01 marks P ("Values to hold"), the plan's as request [3] of document 02 has it: one table. Assumes nothing: these are definitions.
 use mathlib.Core.List.{List, [], _∷_, _++_}
 use Prim.Native.Nat.{ℕ}
 use Prim.Native.String.{String}
@@ -73,5 +73,5 @@ pTable =
     ∷ row (moveRefusal (one 1) 1 2 3 ∷ moveRefusal (one 3) 1 2 1 ∷ moveRefusal (one 1) 1 2 2 ∷ []) (14 ∷ 0 ∷ 14 ∷ [])
     ∷ row (readNumbers (recordRead sample)) (0 ∷ 0 ∷ 107 ∷ 3 ∷ 17 ∷ 6 ∷ 1 ∷ 0 ∷ 28 ∷ replicate 23 0 ++ (1 ∷ []))
     ∷ row (writtenNumbers (recordRead sample) (replicate 107 0 ++ kept)) (0 ∷ 107 ∷ sample ++ kept)
-    ∷ row (planNumbers (planOf 1 3 0 124 10 50)) (0 ∷ 10 ∷ 24 ∷ 0 ∷ 50 ∷ 74 ∷ 40 ∷ [])
+    ∷ row (planNumbers (planOf 1 3 0 124 10 50)) (0 ∷ 10 ∷ 24 ∷ 0 ∷ 50 ∷ 74 ∷ 41 ∷ [])
     ∷ []

@@ -200,11 +200,12 @@ pub fn sdu_start(generator: &mut Generator, length: u64) -> u64 {
     }
 }
 
-/// Where the address starts: mostly so that it ends before the SDU, or with its start.
+/// Where the address starts: mostly so that it ends before the SDU, or with its start. From bit 0 on the SDU's skip is the largest.
 pub fn address_start(generator: &mut Generator, sdu: u64) -> u64 {
     let last = sdu.wrapping_sub(ADDRESS_BITS);
     match generator.below(8) {
-        0 | 1 => pdu_bits(generator),
+        0 => pdu_bits(generator),
+        1 => generator.below(2),
         2 | 3 => beside(generator, last),
         _ => generator.between(0, last.min(PDU_BITS)),
     }

@@ -48,7 +48,8 @@ enum {
     TRAFFIC_WRITES,
     BENCH_STARTS_LATE,
     RECORD_READ_LAX,
-    RECORD_WRITE_LAX
+    RECORD_WRITE_LAX,
+    PLAN_SKIPS_ONE_LESS
 };
 
 #define IS(fault) (BREAK == (fault))
@@ -180,5 +181,7 @@ uint8_t WRAP(plan)(uint64_t kind, uint64_t state, uint64_t flag, size_t length, 
 
     if (IS(PLAN_LEAVES_PIECE) && pieces[4] == 0)
         pieces[5] = before;
+    if (IS(PLAN_SKIPS_ONE_LESS) && pieces[5] > 0)
+        pieces[5]--;
     return answer;
 }

@@ -5,6 +5,7 @@ use std::array::from_fn;
 
 use crate::card::Span;
 use crate::refusals::*;
+use crate::tea::KEYSTREAM_BITS;
 
 /// The longest PDU.
 pub const PDU_BITS: u64 = 8288;
@@ -61,8 +62,8 @@ fn pieces(pdu: &Pdu) -> Result<[Span; 2], Refusal> {
     let none = Span::default();
     match (pdu.kind, pdu.state) {
         (SYNC_ON_SYNC_SLOT, _) | (_, 0) => Ok([none, none]),
-        (_, 1) => Ok([rest_from(clear_head(pdu), pdu.length, 0)?, none]),
-        (_, 2) => Ok([rest_from(pdu.sdu, pdu.length, 0)?, none]),
+        (_, 1) => Ok([rest_from(clear_head(pdu), pdu.length)?, none]),
+        (_, 2) => Ok([rest_from(pdu.sdu, pdu.length)?, none]),
         _ => address_and_sdu(pdu),
     }
 }
@@ -84,17 +85,17 @@ fn clear_head(pdu: &Pdu) -> u64 {
     }
 }
 
-/// The piece from `start` to the PDU's end.
-fn rest_from(start: u64, length: u64, skip: u64) -> Result<Span, Refusal> {
+/// The piece from `start` to the PDU's end, by the keystream from its bit 0 on.
+fn rest_from(start: u64, length: u64) -> Result<Span, Refusal> {
     let length = length.checked_sub(start).ok_or(PDU_PARTS_DO_NOT_FIT)?;
     Ok(Span {
         start,
         length,
-        skip,
+        skip: 0,
     })
 }
 
-/// State 3: the address, then the SDU.
+/// State 3: the address, then the SDU, for which there may be too little keystream.
 fn address_and_sdu(pdu: &Pdu) -> Result<[Span; 2], Refusal> {
     let address = Span {
         start: pdu.address,
@@ -102,8 +103,15 @@ fn address_and_sdu(pdu: &Pdu) -> Result<[Span; 2], Refusal> {
         skip: 0,
     };
     let between = bits_between(pdu).ok_or(PDU_PARTS_DO_NOT_FIT)?;
-    let sdu = rest_from(pdu.sdu, pdu.length, sdu_skip(between))?;
-    Ok([address, sdu])
+    let rest = rest_from(pdu.sdu, pdu.length)?;
+    let sdu = Span {
+        skip: sdu_skip(between),
+        ..rest
+    };
+    let too_far = sdu.length > 0 && sdu.skip + sdu.length > KEYSTREAM_BITS as u64;
+    (!too_far)
+        .then_some([address, sdu])
+        .ok_or(PDU_PARTS_DO_NOT_FIT)
 }
 
 /// n: the bits from the end of the address to the start of the SDU.
@@ -111,7 +119,7 @@ fn bits_between(pdu: &Pdu) -> Option<u64> {
     pdu.sdu.checked_sub(pdu.address)?.checked_sub(ADDRESS_BITS)
 }
 
-/// The keystream bit that the SDU begins with in state 3: n bits after the address's are passed over.
+/// The keystream bit that the SDU begins with in state 3: KSS(24) to KSS(24+n) are discarded, which are n + 1 bits.
 fn sdu_skip(between: u64) -> u64 {
-    ADDRESS_BITS + between
+    ADDRESS_BITS + between + 1
 }

@@ -1,11 +1,12 @@
 -- `plan::planned_pieces` meets its contract. Assumes nothing.
 use Prim.Native.Nat.{_+_}
 use lib.Dec.{ltb}
+use native.Mathlib.Omega.{arith}
 use borrow.Author.Needs.{needs}
 use borrow.Author.Tests.{eq-eqb, ne-eqb, ltb-false}
 use Rattle.laws.proofs.Cases.{neither}
-use Rattle.plan.specs.Plan.{addressBits, plannedPieces}
-use Rattle.plan.proofs.Sound.{passed}
+use Rattle.plan.specs.Plan.{addressBits, pastKeystream, plannedPieces}
+use Rattle.plan.proofs.Sound.{passed, short}
 use Rattle.plan.proofs.planned_pieces.Statement.{statement}
 use Rattle.plan.proofs.planned_pieces.Tie as tie
 
@@ -40,7 +41,9 @@ second-skip-requires c κs =
     let g = c .before .before .before .args in
     let fits = passed (g .kind) (g .state) (g .flag) (g .length) (g .address) (g .sdu) (c .before .before .before .pre) .1 in
     let here = simp (c .before .before .if1 .left, ne-eqb _ _ (c .before .if2 .left), ne-eqb _ _ (c .if3 .left)) at fits in
-    ltb-false _ _ (neither (ltb (g .sdu) (g .address + addressBits)) (ltb (g .length) (g .sdu)) here .0)
+    let parts = neither (ltb (g .sdu) (g .address + addressBits)) (ltb (g .length) (g .sdu)) (neither _ (pastKeystream (g .length) (g .address) (g .sdu)) here .0) in
+    let most = short (g .kind) (g .state) (g .flag) (g .length) (g .address) (g .sdu) (c .before .before .before .pre) in
+    (ltb-false _ _ (parts .0), omega (arith, ltb-false (g .length) (g .sdu) (parts .1), most))
 
 returns-4 : tie.Need-returns-4
 unfolding plannedPieces

@@ -10,6 +10,7 @@ pub const CHECKS: &[Check] = &[
     ("clear heads", clear_heads),
     ("SDU alone", sdu_alone),
     ("address and SDU", address_and_sdu),
+    ("the keystream's end", keystream_end),
     ("unknown PDUs", unknown_pdus),
 ];
 
@@ -96,8 +97,8 @@ fn sdu_alone() -> Finding {
 fn address_and_sdu() -> Finding {
     let last = u64::MAX;
     for (address, sdu, wanted) in [
-        (10, 50, pieces(&[(10, 24, 0), (50, 74, 40)])),
-        (10, 34, pieces(&[(10, 24, 0), (34, 90, 24)])),
+        (10, 50, pieces(&[(10, 24, 0), (50, 74, 41)])),
+        (10, 34, pieces(&[(10, 24, 0), (34, 90, 25)])),
         (0, 124, pieces(&[(0, 24, 0)])),
         (100, 124, pieces(&[(100, 24, 0)])),
         (10, 33, refused(PDU_PARTS_DO_NOT_FIT)),
@@ -106,12 +107,38 @@ fn address_and_sdu() -> Finding {
         (last, 50, refused(PDU_PARTS_DO_NOT_FIT)),
         (last - 23, 124, refused(PDU_PARTS_DO_NOT_FIT)),
         (last - 24, last, refused(PDU_PARTS_DO_NOT_FIT)),
+        (0, last, refused(PDU_PARTS_DO_NOT_FIT)),
     ] {
         for kind in [1, 2] {
             let pdu = Pdu {
                 address,
                 sdu,
                 ..pdu(kind, 3, 0, 124)
+            };
+            planned(pdu, wanted)?;
+        }
+    }
+    Ok(())
+}
+
+/// Only the longest PDU with its address in front can need bit 8,288, and does not if nothing follows the address.
+fn keystream_end() -> Finding {
+    let too_far = refused(PDU_PARTS_DO_NOT_FIT);
+    for (length, address, sdu, wanted) in [
+        (8288, 0, 24, too_far),
+        (8288, 0, 4000, too_far),
+        (8288, 0, 8287, too_far),
+        (8288, 0, 8288, pieces(&[(0, 24, 0)])),
+        (8288, 1, 25, pieces(&[(1, 24, 0), (25, 8263, 25)])),
+        (8288, 1, 8287, pieces(&[(1, 24, 0), (8287, 1, 8287)])),
+        (8287, 0, 24, pieces(&[(0, 24, 0), (24, 8263, 25)])),
+        (8287, 0, 8286, pieces(&[(0, 24, 0), (8286, 1, 8287)])),
+    ] {
+        for (kind, flag) in [(1, 0), (1, 1), (2, 0), (2, 1)] {
+            let pdu = Pdu {
+                address,
+                sdu,
+                ..pdu(kind, 3, flag, length)
             };
             planned(pdu, wanted)?;
         }
