@@ -45,9 +45,6 @@ affine b =
 unfoldable pub sBox : ℕ → ℕ
 sBox x = affine (inverse x)
 
--- the table of M (clause 5.5), and the S-box as a table
-unfoldable pub timesD7s : List ℕ
-timesD7s = tabulate (times 0xd7) 0 256
-
+-- the S-box as a table
 unfoldable pub sBoxes : List ℕ
 sBoxes = tabulate sBox 0 256

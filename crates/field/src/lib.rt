@@ -1,26 +1,7 @@
-// Bytes as elements of GF(2^8): the tables of M and of the S-box, to be lent, and doubling.
+// Bytes as elements of GF(2^8): M, the table of the S-box, to be lent, and doubling.
 
 ghost use mathlib.Core.Path.{_≡_};
-ghost use Rattle.field.specs.Field.{times, timesD7s, sBox, sBoxes};
-
-// Clauses 5.5, 6.5, 7.5: M, multiplication by 0xd7. (Table 1 prints 0xb1 at 0x26; multiplication decides.)
-const M: [u8; 256] = *b"\
-    \x00\xd7\xb5\x62\x71\xa6\xc4\x13\xe2\x35\x57\x80\x93\x44\x26\xf1\
-    \xdf\x08\x6a\xbd\xae\x79\x1b\xcc\x3d\xea\x88\x5f\x4c\x9b\xf9\x2e\
-    \xa5\x72\x10\xc7\xd4\x03\x61\xb6\x47\x90\xf2\x25\x36\xe1\x83\x54\
-    \x7a\xad\xcf\x18\x0b\xdc\xbe\x69\x98\x4f\x2d\xfa\xe9\x3e\x5c\x8b\
-    \x51\x86\xe4\x33\x20\xf7\x95\x42\xb3\x64\x06\xd1\xc2\x15\x77\xa0\
-    \x8e\x59\x3b\xec\xff\x28\x4a\x9d\x6c\xbb\xd9\x0e\x1d\xca\xa8\x7f\
-    \xf4\x23\x41\x96\x85\x52\x30\xe7\x16\xc1\xa3\x74\x67\xb0\xd2\x05\
-    \x2b\xfc\x9e\x49\x5a\x8d\xef\x38\xc9\x1e\x7c\xab\xb8\x6f\x0d\xda\
-    \xa2\x75\x17\xc0\xd3\x04\x66\xb1\x40\x97\xf5\x22\x31\xe6\x84\x53\
-    \x7d\xaa\xc8\x1f\x0c\xdb\xb9\x6e\x9f\x48\x2a\xfd\xee\x39\x5b\x8c\
-    \x07\xd0\xb2\x65\x76\xa1\xc3\x14\xe5\x32\x50\x87\x94\x43\x21\xf6\
-    \xd8\x0f\x6d\xba\xa9\x7e\x1c\xcb\x3a\xed\x8f\x58\x4b\x9c\xfe\x29\
-    \xf3\x24\x46\x91\x82\x55\x37\xe0\x11\xc6\xa4\x73\x60\xb7\xd5\x02\
-    \x2c\xfb\x99\x4e\x5d\x8a\xe8\x3f\xce\x19\x7b\xac\xbf\x68\x0a\xdd\
-    \x56\x81\xe3\x34\x27\xf0\x92\x45\xb4\x63\x01\xd6\xc5\x12\x70\xa7\
-    \x89\x5e\x3c\xeb\xf8\x2f\x4d\x9a\x6b\xbc\xde\x09\x1a\xcd\xaf\x78";
+ghost use Rattle.field.specs.Field.{times, sBox, sBoxes};
 
 // The Rijndael proposal, 4.2.1: the inverse, and then the affine map.
 const S_BOX: [u8; 256] = *b"\
@@ -41,26 +22,23 @@ const S_BOX: [u8; 256] = *b"\
     \xe1\xf8\x98\x11\x69\xd9\x8e\x94\x9b\x1e\x87\xe9\xce\x55\x28\xdf\
     \x8c\xa1\x89\x0d\xbf\xe6\x42\x68\x41\x99\x2d\x0f\xb0\x54\xbb\x16";
 
-// The table of M. A public call takes it once and lends it: a function that names a constant copies it.
-pub fn times_d7_table() -> [u8; 256]
-    ensures { λ r. ⌜ r ≡ timesD7s ⌝ }
-{
-    M
-}
-
-// The S-box, to be taken once and lent too.
+// The S-box. A public call takes it once and lends it: a function that names a constant copies it.
 pub fn s_box_table() -> [u8; 256]
     ensures { λ r. ⌜ r ≡ sBoxes ⌝ }
 {
     S_BOX
 }
 
-// M of b, by the lent table.
-pub fn times_d7(m: &[u8; 256], b: u8) -> u8
-    requires { ⌜ now m ≡ timesD7s ⌝ }
+// M (clauses 5.5, 6.5, 7.5), b times 0xd7, by shifts and sums. 0xd7 is 3 (9 + 4 + 64), and the polynomial brings what goes out above bit 7
+// back by 0x1b, which is 3 * 9: so what goes out, b shifted down by 1, 2, 4, 5 and 6, is summed with b and meets the 9 with it.
+// (Table 1 prints 0xb1 at 0x26; multiplication decides.)
+pub fn times_d7(b: u8) -> u8
     ensures { λ r. ⌜ r ≡ times 0xd7 b ⌝ }
 {
-    m[b as usize]
+    let near = b ^ b >> 1 ^ b >> 2;
+    let nine = near ^ near >> 4;
+    let third = nine ^ nine << 3 ^ b << 2 ^ b << 6;
+    third ^ third << 1
 }
 
 // b through the lent S-box.
