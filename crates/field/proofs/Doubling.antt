@@ -30,7 +30,7 @@ times-27 p q hp hq =
     (between (λ y. eqb (bitXor p y * 27) (bitXor (p * 27) (y * 27))) 0 2
     (between (λ x. all (λ y. eqb (bitXor x y * 27) (bitXor (x * 27) (y * 27))) 0 2) 0 2 tt p zero-le (omega arith)) q zero-le (omega arith))
 
-linear : (a b : ℕ) → a < 256 → b < 256 → double (bitXor a b) ≡ bitXor (double a) (double b)
+pub linear : (a b : ℕ) → a < 256 → b < 256 → double (bitXor a b) ≡ bitXor (double a) (double b)
 linear a b ha hb =
     (λ i. bitXor (xor-mod a b 7 i * 2) (xor-shr a b 7 i * 27))
     ∙ (λ i. bitXor (times-2 (a % 128) (b % 128) i) (times-27 (a / 128) (b / 128) (omega arith) (omega arith) i))

@@ -11,7 +11,7 @@ use rounds::packing::to_words;
 use rounds::round;
 
 // Byte k of a block stands in row k mod 4, column k div 4.
-fn to_state(b: [u8; 32]) -> [[u8; 8]; 4]
+pub fn to_state(b: [u8; 32]) -> [[u8; 8]; 4]
     ensures { λ s. ⌜ s ≡ toState b ⌝ }
 {
     let mut t = [[0u8; 8]; 4];
@@ -24,7 +24,7 @@ fn to_state(b: [u8; 32]) -> [[u8; 8]; 4]
     t
 }
 
-fn to_block(s: [[u8; 8]; 4]) -> [u8; 32]
+pub fn to_block(s: [[u8; 8]; 4]) -> [u8; 32]
     ensures { λ b. ⌜ b ≡ toBlock s ⌝ }
 {
     let mut b = [0u8; 32];

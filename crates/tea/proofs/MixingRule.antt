@@ -19,7 +19,7 @@ module _ (iv : List ℕ) (ten : length iv ≡ 10) where
   unfolding mixedByte
   byte-first i h = sequence-first _ iv 9 ten i h
 
-  byte-later : (i : ℕ) → mixedByte iv (i + 10) ≡ mixed (mixedByte iv i) (mixedByte iv (i + 1)) (mixedByte iv (i + 9))
+  pub byte-later : (i : ℕ) → mixedByte iv (i + 10) ≡ mixed (mixedByte iv i) (mixedByte iv (i + 1)) (mixedByte iv (i + 9))
   unfolding mixedByte
   byte-later i =
       sequence-next _ iv 9 ten i
