@@ -1,0 +1,1 @@
+// Which blocks of keystreams cannot be the same: theorems. No code.
