@@ -11,7 +11,7 @@ use Rattle.laws.specs.Lists.{tabulate, cell}
 use Rattle.laws.proofs.Cases.{lt-or-le}
 use Rattle.laws.proofs.Lists.{length-tabulate, tabulate-at, tabulate-ext}
 use Rattle.laws.proofs.States.{grid-at}
-use Rattle.rijndael.specs.Schedule.{keyWord}
+use Rattle.schedule.specs.Schedule.{keyWord}
 use Rattle.rijndael.specs.Cipher.{toState, toBlock, encrypted, cipher}
 use Rattle.inv_parts.specs.Schedule.{invKeyWord}
 use Rattle.inverse.specs.Decipher.{decrypted, decipher}

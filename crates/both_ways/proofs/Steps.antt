@@ -12,8 +12,8 @@ use Rattle.laws.proofs.Lists.{length-tabulate, getD-tabulate}
 use Rattle.laws.proofs.States.{Shape, columns-all, grid-at}
 use Rattle.laws.proofs.Xor.{xor-back}
 use Rattle.field.specs.Field.{sBox}
-use Rattle.rijndael.specs.Words.{join, byteOf}
-use Rattle.rijndael.specs.Steps.{byteSub, shiftOf, shiftRow, mixedByte, mixColumn, addRoundKey}
+use Rattle.words.specs.Words.{join, byteOf}
+use Rattle.rounds.specs.Steps.{byteSub, shiftOf, shiftRow, mixedByte, mixColumn, addRoundKey}
 use Rattle.inv_bytes.specs.Bytes.{invSBox, invMixedByte}
 use Rattle.inv_parts.specs.Steps.{invByteSub, invShiftRow, invMixColumn}
 use Rattle.inv_parts.specs.Schedule.{invMixedWord}

@@ -10,7 +10,7 @@ use lib.ListN.{getD}
 use Rattle.laws.specs.Lists.{tabulate, Filled}
 use Rattle.laws.proofs.Cases.{lt-or-le}
 use Rattle.laws.proofs.Lists.{length-tabulate, getD-tabulate, tabulate-ext, tabulate-at}
-use Rattle.rijndael.specs.Schedule.{keyWord}
+use Rattle.schedule.specs.Schedule.{keyWord}
 use Rattle.inv_parts.specs.Schedule.{invMixedWord, mixedBack, invKeyWord}
 
 pub first-stays : (i x : ℕ) → i < 8 → x ≡ mixedBack i x

@@ -4,8 +4,8 @@ use mathlib.Core.List.{List}
 use Prim.Native.Nat.{ℕ}
 use lib.Dec.{ltb}
 use Rattle.laws.specs.Choice.{pick}
-use Rattle.rijndael.specs.Words.{join, byteOf}
-use Rattle.rijndael.specs.Schedule.{keyWord}
+use Rattle.words.specs.Words.{join, byteOf}
+use Rattle.schedule.specs.Schedule.{keyWord}
 use Rattle.inv_bytes.specs.Bytes.{invMixedByte}
 
 -- a word as a column, through the inverse column mixing

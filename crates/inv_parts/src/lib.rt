@@ -5,11 +5,11 @@ ghost use Rattle.laws.specs.Lists.{tabulate};
 ghost use Rattle.inv_parts.specs.Steps.{invShiftRow};
 ghost use Rattle.inv_parts.specs.Schedule.{invMixedWord, mixedBack};
 use inv_bytes::inv_mixed_byte;
-use rijndael::words::byte0;
-use rijndael::words::byte1;
-use rijndael::words::byte2;
-use rijndael::words::byte3;
-use rijndael::words::join_bytes;
+use words::byte0;
+use words::byte1;
+use words::byte2;
+use words::byte3;
+use words::join_bytes;
 
 // Rows 1, 2, 3 turn right by 1, 3, 4.
 pub fn inv_shift_row(s: [[u8; 8]; 4]) -> [[u8; 8]; 4]

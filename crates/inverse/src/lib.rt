@@ -1,5 +1,5 @@
 // The inverse of the block cipher, with its own schedule. No call of the card needs it: the theorems on repeated blocks do.
-pub mod schedule;
+pub mod inv_schedule;
 mod steps;
 
 ghost use mathlib.Core.Path.{_≡_};
@@ -10,7 +10,7 @@ ghost use Rattle.inv_bytes.specs.Bytes.{invSBoxes};
 ghost use Rattle.inverse.specs.Decipher.{invRoundOf, invFinalRound, decrypted, decipher};
 use inv_bytes::inv_s_box_table;
 use inv_parts::inv_shift_row;
-use rijndael::steps::add_round_key;
+use rounds::add_round_key;
 use rijndael::to_block;
 use rijndael::to_state;
 use steps::inv_byte_sub;
@@ -57,7 +57,7 @@ pub fn deciphered(key: [u8; 24], b: [u8; 32]) -> [u8; 32]
     let s_box = field::s_box_table();
     let table = inv_s_box_table();
     let mut w = [0u32; 120];
-    schedule::expand_inv_key(&mut w, key, &s_box);
+    inv_schedule::expand_inv_key(&mut w, key, &s_box);
     decrypt_block(b, &w, &table)
 }
 

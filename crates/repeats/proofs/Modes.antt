@@ -13,11 +13,11 @@ use Rattle.laws.specs.Lists.{tabulate}
 use Rattle.laws.proofs.Cases.{pick-cases}
 use Rattle.laws.proofs.Lists.{getD-tabulate}
 use Rattle.laws.proofs.Tests.{all, holds}
-use Rattle.tea.specs.Combining.{fTea5, fTea6, fTea7}
-use Rattle.tea.specs.Algorithm.{combining}
+use Rattle.algorithms.specs.Combining.{fTea5, fTea6, fTea7}
+use Rattle.algorithms.specs.Algorithm.{combining}
 use Rattle.tea.specs.Mixing.{mixedValue}
 use Rattle.tea.specs.Mode.{combined, firstOf, secondOf, modeKey, modeValue, modeBy, modeOf}
-use Rattle.tea.proofs.Rules.{RowRule, NoValueTwice, tea5-row-rule, tea6-row-rule, tea5-no-value-twice, tea6-no-value-twice, tea7-no-value-twice}
+use Rattle.algorithms.proofs.Rules.{RowRule, NoValueTwice, tea5-row-rule, tea6-row-rule, tea5-no-value-twice, tea6-no-value-twice, tea7-no-value-twice}
 use Rattle.repeats.specs.Repeats.{Bytes, InitialValue}
 use Rattle.repeats.proofs.MixedValues.{mixed-apart, length-mixed, mixed-small}
 

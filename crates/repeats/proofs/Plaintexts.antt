@@ -11,9 +11,9 @@ use lib.Seq.{ext-getD, getD-append-add}
 use Rattle.laws.specs.Choice.{pick}
 use Rattle.laws.proofs.Cases.{lt-or-le, below-eight, pick-cases}
 use Rattle.laws.proofs.Lists.{length-tabulate, getD-tabulate}
-use Rattle.rijndael.specs.Words.{join, byteOf}
+use Rattle.words.specs.Words.{join, byteOf}
 use Rattle.tea.specs.declared.mode.Mode.{Mode}
-use Rattle.tea.specs.Algorithm.{combining, digitOf}
+use Rattle.algorithms.specs.Algorithm.{combining, digitOf}
 use Rattle.tea.specs.Mode.{firstOf, secondOf, modeValue, modeBy, modeOf}
 use Rattle.tea.specs.Mixing.{mixedValue}
 use Rattle.tea.specs.Keystream.{tag, plaintext}

@@ -9,11 +9,11 @@ use lib.ListN.{length, getD}
 use lib.Seq.{ext-getD}
 use Rattle.laws.specs.Lists.{tabulate}
 use Rattle.laws.proofs.Lists.{length-tabulate, getD-tabulate, tabulate-at}
-use Rattle.rijndael.specs.Words.{join}
-use Rattle.rijndael.specs.Schedule.{packed, keyWord}
+use Rattle.words.specs.Words.{join}
+use Rattle.schedule.specs.Schedule.{packed, keyWord}
 use Rattle.rijndael.specs.Cipher.{cipher}
-use Rattle.rijndael.proofs.KeyWords.{word-first}
-use Rattle.tea.specs.Algorithm.{combining}
+use Rattle.schedule.proofs.KeyWords.{word-first}
+use Rattle.algorithms.specs.Algorithm.{combining}
 use Rattle.tea.specs.Mixing.{mixedValue}
 use Rattle.tea.specs.Mode.{firstOf, secondOf, modeKey, modeBy, modeOf}
 use Rattle.tea.specs.Keystream.{plaintext, blockOf}

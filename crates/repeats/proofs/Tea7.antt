@@ -12,8 +12,8 @@ use Rattle.laws.specs.Lists.{tabulate, window, sequence}
 use Rattle.laws.proofs.Cases.{lt-or-le}
 use Rattle.laws.proofs.Tests.{all, holds}
 use Rattle.field.specs.Field.{times}
-use Rattle.tea.specs.Combining.{fTea7}
-use Rattle.tea.specs.Algorithm.{combining}
+use Rattle.algorithms.specs.Combining.{fTea7}
+use Rattle.algorithms.specs.Algorithm.{combining}
 use Rattle.tea.specs.Mixing.{mixedByte, mixedValue}
 use Rattle.tea.specs.Mode.{modeValue, modeBy, modeOf}
 use Rattle.repeats.specs.Repeats.{Bytes, InitialValue}

@@ -6,7 +6,7 @@ use borrow.Author.Needs.{needs}
 use Rattle.inv_parts.specs.Steps.{invShiftRow}
 use Rattle.laws.proofs.States.{Columns, columns-none, columns-more, columns-all, state-shape}
 use Rattle.laws.specs.Lists.{cell}
-use Rattle.rijndael.specs.Steps.{shiftOf}
+use Rattle.rounds.specs.Steps.{shiftOf}
 use Rattle.inv_parts.proofs.inv_shift_row.Statement.{statement}
 use Rattle.inv_parts.proofs.inv_shift_row.Tie as tie
 

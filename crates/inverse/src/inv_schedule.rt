@@ -10,6 +10,6 @@ pub fn expand_inv_key(w: &mut [u32], key: [u8; 24], table: &[u8; 256])
     requires { ⌜ (length (now w) ≡ 120) × (now table ≡ sBoxes) ⌝ }
     ensures { λ _. ⌜ now (w .exit) ≡ tabulate (invKeyWord key) 0 120 ⌝ }
 {
-    rijndael::schedule::expand_key(w, key, table);
+    schedule::expand_key(w, key, table);
     inv_parts::mix_back(w);
 }

@@ -1,9 +1,9 @@
--- `inverse::schedule::expand_inv_key`: the cipher's schedule, and then its round keys 1 to 13. Assumes nothing.
+-- `inverse::inv_schedule::expand_inv_key`: the cipher's schedule, and then its round keys 1 to 13. Assumes nothing.
 use mathlib.Core.Path.{_∙_}
 use borrow.Author.Needs.{needs}
 use Rattle.inv_parts.proofs.MixedBack.{inv-words}
-use Rattle.inverse.proofs.schedule.expand_inv_key.Statement.{statement}
-use Rattle.inverse.proofs.schedule.expand_inv_key.Tie as tie
+use Rattle.inverse.proofs.inv_schedule.expand_inv_key.Statement.{statement}
+use Rattle.inverse.proofs.inv_schedule.expand_inv_key.Tie as tie
 
 returns : tie.Need-returns
 returns c = c .before .before .mix-back .ensures ∙ inv-words _ _ (c .before .before .before .before .before .before .expand-key .ensures)
