@@ -1,7 +1,7 @@
 // The card: the calls that an integrator makes, each with every refusal of document 01.
 pub mod bench;
 pub mod ciphering;
-mod lent;
+pub mod lent;
 mod lent_table;
 pub mod listing;
 pub mod pdu;

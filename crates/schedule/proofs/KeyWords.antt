@@ -19,7 +19,7 @@ pub word-first : (k : List ℕ) (i : ℕ) → i < 6 → packed k i ≡ keyWord k
 unfolding keyWord
 word-first k i h = sym (sequence-first _ _ 5 (length-tabulate (packed k) 0 6) i h ∙ getD-tabulate (packed k) 0 6 i 0 h ∙ ap (packed k) (zero-add i))
 
-word-next : (k : List ℕ) (i : ℕ) → keyWord k (i + 6) ≡ bitXor (keyWord k i) (carried (i + 6) (keyWord k (i + 5)))
+pub word-next : (k : List ℕ) (i : ℕ) → keyWord k (i + 6) ≡ bitXor (keyWord k i) (carried (i + 6) (keyWord k (i + 5)))
 unfolding keyWord
 word-next k i =
     sequence-next _ _ 5 (length-tabulate (packed k) 0 6) i

@@ -1,0 +1,48 @@
+// The quick engine's answer to the call that the plain engine answers. proofs/Equal.antt says that the two are the same.
+ghost use mathlib.Core.Path.{_≡_};
+ghost use Prim.Native.Nat.{_+_, _*_, _≤_};
+ghost use lib.ListN.{length};
+ghost use Rattle.span.specs.Span.{written};
+ghost use Rattle.keystream.specs.Stream.{keystream};
+ghost use Rattle.plain.specs.Given.{givenRefusal, given, givenBlocks};
+use card::lent::iv_of;
+use card::lent::key_of;
+use plain::call::refusal_of;
+
+// Bits 0 to n - 1 of the buffer become the keystream's from bit `skip` on: what the bench call does, with a skip.
+fn write_keystream(
+    buf: &mut [u8],
+    n: usize,
+    skip: usize,
+    algorithm: u64,
+    ck: [u8; 24],
+    iv: [u8; 10],
+)
+    requires { ⌜ (length (now buf) ≤ 8192) × (n ≤ 8 * length (now buf)) × (skip + n ≤ 8288) ⌝ }
+    ensures { λ _. ⌜ now (buf .exit) ≡ written (now (buf .entry)) (keystream algorithm ck iv) 0 skip n ⌝ }
+{
+    span::clear_front(buf, n);
+    keystream::xor_keystream(buf, 0, n, skip, algorithm, ck, iv);
+}
+
+// By the quick engine: the tables, the list of mixed bytes, the schedule of 32-bit words.
+pub fn quick(
+    algorithm: u64,
+    key: &[u8],
+    iv: &[u8],
+    buf: &mut [u8],
+    n: usize,
+    skip: usize,
+    blocks: &mut usize,
+) -> u8
+    ensures { λ r. ⌜ (r ≡ givenRefusal algorithm (now (key .entry)) (now (iv .entry)) (now (buf .entry)) n skip) × (now (buf .exit) ≡ given algorithm (now (key .entry)) (now (iv .entry)) (now (buf .entry)) n skip) × (now (blocks .exit) ≡ givenBlocks algorithm (now (key .entry)) (now (iv .entry)) (now (buf .entry)) n skip) ⌝ }
+{
+    *blocks = 0;
+    let refusal = refusal_of(algorithm, key, iv, &buf[..], n, skip);
+    if refusal != refusals::DONE {
+        return refusal;
+    }
+    write_keystream(buf, n, skip, algorithm, key_of(key), iv_of(iv));
+    *blocks = span::blocks_used(skip, n);
+    refusals::DONE
+}
