@@ -31,7 +31,7 @@ int main(int count, char **words)
         subjects_prepare();
         if (agree_check(words[2]) != 0 || measure_curves(words[3]) != 0)
             return 1;
-        if (measure_slots() != 0)
+        if (measure_slots() != 0 || measure_engine() > 0)
             return 1;
         return measure_bench() + measure_traffic() > 0 ? 2 : 0;
     }

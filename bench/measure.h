@@ -14,4 +14,8 @@ int measure_traffic(void);
    isn't answered as it must be. */
 int measure_slots(void);
 
+/* Measures the plain engine beside the bench call, and prints a line for each length. Returns how many lengths differ in
+   what the two give. */
+int measure_engine(void);
+
 #endif

@@ -1,12 +1,20 @@
 //! Links the card's static library: the file that `CARD_LIBRARY` names, or the repository's
-//! target/staticlib/libcard.a.
+//! target/staticlib/libcard.a; and with the feature `plain` the plain engine's, `PLAIN_LIBRARY` or libplain.a
+//! there.
 
 use std::env;
 use std::path::{Path, PathBuf};
 
 fn main() {
-    println!("cargo::rerun-if-env-changed=CARD_LIBRARY");
-    let library = card_library();
+    link("card", "CARD_LIBRARY");
+    if env::var_os("CARGO_FEATURE_PLAIN").is_some() {
+        link("plain", "PLAIN_LIBRARY");
+    }
+}
+
+fn link(crate_name: &str, variable: &str) {
+    println!("cargo::rerun-if-env-changed={variable}");
+    let library = library(crate_name, variable);
     match (library.canonicalize(), linked_name(&library)) {
         (Ok(file), Some(name)) if file.is_file() => {
             let folder = file.parent().unwrap_or(Path::new("/"));
@@ -15,16 +23,17 @@ fn main() {
             println!("cargo::rustc-link-lib=static={name}");
         }
         _ => println!(
-            "cargo::error={} is missing, or its name is not lib...a: 'rt staticlib card' writes target/staticlib/libcard.a, and CARD_LIBRARY may name another file",
+            "cargo::error={} is missing, or its name is not lib...a: 'rt staticlib {crate_name}' writes target/staticlib/lib{crate_name}.a, and {variable} may name another file",
             library.display()
         ),
     }
 }
 
-fn card_library() -> PathBuf {
-    match env::var_os("CARD_LIBRARY") {
+fn library(crate_name: &str, variable: &str) -> PathBuf {
+    match env::var_os(variable) {
         Some(path) => PathBuf::from(path),
-        None => Path::new(env!("CARGO_MANIFEST_DIR")).join("../../target/staticlib/libcard.a"),
+        None => Path::new(env!("CARGO_MANIFEST_DIR"))
+            .join(format!("../../target/staticlib/lib{crate_name}.a")),
     }
 }
 

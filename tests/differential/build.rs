@@ -1,11 +1,17 @@
-//! Links the card's static library: `CARD_LIBRARY`, or the repository's target/staticlib/libcard.a.
+//! Links the card's static libraries: `CARD_LIBRARY` and `PLAIN_LIBRARY`, or the repository's
+//! target/staticlib/libcard.a and libplain.a.
 
 use std::env;
 use std::path::PathBuf;
 
 fn main() {
-    println!("cargo::rerun-if-env-changed=CARD_LIBRARY");
-    let library = card_library();
+    link("card", "CARD_LIBRARY");
+    link("plain", "PLAIN_LIBRARY");
+}
+
+fn link(crate_name: &str, variable: &str) {
+    println!("cargo::rerun-if-env-changed={variable}");
+    let library = library(crate_name, variable);
     let name = library.file_name().and_then(|name| name.to_str());
     let linked = name.and_then(|name| name.strip_prefix("lib")?.strip_suffix(".a"));
     match (library.parent(), linked) {
@@ -15,17 +21,17 @@ fn main() {
             println!("cargo::rustc-link-lib=static={linked}");
         }
         _ => println!(
-            "cargo::error={} is missing or no library: 'rt staticlib card' writes it",
+            "cargo::error={} is missing or no library: 'rt staticlib {crate_name}' writes it",
             library.display()
         ),
     }
 }
 
-fn card_library() -> PathBuf {
-    match env::var_os("CARD_LIBRARY") {
+fn library(crate_name: &str, variable: &str) -> PathBuf {
+    match env::var_os(variable) {
         Some(path) => PathBuf::from(path),
         None => PathBuf::from(env!("CARGO_MANIFEST_DIR"))
             .join("../../target/staticlib")
-            .join("libcard.a"),
+            .join(format!("lib{crate_name}.a")),
     }
 }

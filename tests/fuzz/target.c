@@ -9,7 +9,7 @@
 static struct {
     uint8_t answers[KINDS][20][8];
     uint8_t shifts[2][8][8];
-    uint8_t blocks[2][34];
+    uint8_t blocks[3][34];
 } counters __attribute__((section("__libfuzzer_extra_counters")));
 
 int LLVMFuzzerTestOneInput(const uint8_t *bytes, size_t size);
@@ -19,9 +19,9 @@ static void count(const struct call *call, const struct outcome *outcome)
     uint64_t line = call->kind == RECORD_READ ? outcome->numbers[7] : 0;
 
     counters.answers[call->kind][outcome->answer % 20][line % 8]++;
-    if (outcome->answer != CARD_DONE || (call->kind != TRAFFIC && call->kind != BENCH))
+    if (outcome->answer != CARD_DONE || (call->kind != TRAFFIC && call->kind != BENCH && call->kind != PLAIN))
         return;
-    counters.blocks[call->kind == BENCH][outcome->numbers[0] % 34]++;
+    counters.blocks[call->kind == BENCH ? 1 : call->kind == PLAIN ? 2 : 0][outcome->numbers[0] % 34]++;
     if (call->kind == TRAFFIC) {
         counters.shifts[0][call->start % 8][call->skip % 8]++;
         counters.shifts[1][call->start % 8][call->length % 8]++;

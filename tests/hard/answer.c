@@ -9,11 +9,13 @@
 const struct face card_face = {
     "card's",   card_load,  card_move,        card_clear,        card_read,
     card_traffic, card_bench, card_record_read, card_record_write, card_plan,
+    card_plain,
 };
 
 const struct face oracle_face = {
     "second program's", oracle_load,  oracle_move,        oracle_clear,        oracle_read,
     oracle_traffic,     oracle_bench, oracle_record_read, oracle_record_write, oracle_plan,
+    oracle_plain,
 };
 
 static void *lend_table(const struct table *table)
@@ -116,6 +118,17 @@ static void make_bench(const struct face *face, const struct call *call, struct 
     take_number(0, outcome);
 }
 
+static void make_plain(const struct face *face, const struct call *call, struct outcome *outcome)
+{
+    outcome->answer = face->plain(call->algorithm, lend_bytes(KEY_ROOM, &call->key), call->key.count,
+                                  lend_bytes(IV_ROOM, &call->iv), call->iv.count, lend_buffer(&call->buffer),
+                                  call->buffer.count, call->length, call->skip, lend_number(0, sizeof(size_t)));
+    take_bytes(KEY_ROOM);
+    take_bytes(IV_ROOM);
+    room_take(BUFFER_ROOM, outcome->buffer.at);
+    take_number(0, outcome);
+}
+
 /* Its six shown numbers are one array; they go to the first six of the outcome, `used` and `line` after them. */
 static void make_record_read(const struct face *face, const struct call *call, struct outcome *outcome)
 {
@@ -152,7 +165,7 @@ void answer(const struct face *face, const struct call *call, const struct table
 {
     static void (*const make[KINDS])(const struct face *, const struct call *, struct outcome *) = {
         make_load,  make_move,        make_clear,        make_read, make_traffic,
-        make_bench, make_record_read, make_record_write, make_plan,
+        make_bench, make_record_read, make_record_write, make_plan, make_plain,
     };
 
     report_whose(face->whose);

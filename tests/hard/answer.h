@@ -16,6 +16,7 @@ struct face {
     __typeof__(card_record_read) *record_read;
     __typeof__(card_record_write) *record_write;
     __typeof__(card_plan) *plan;
+    __typeof__(card_plain) *plain;
 };
 
 extern const struct face card_face, oracle_face;

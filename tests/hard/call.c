@@ -3,7 +3,7 @@
 #include <string.h>
 
 const char *const kind_names[KINDS] = {"load",  "move",        "clear",        "read", "traffic",
-                                       "bench", "record_read", "record_write", "plan"};
+                                       "bench", "record_read", "record_write", "plan", "plain"};
 
 void bytes_copy(struct bytes *to, const struct bytes *from)
 {
@@ -34,5 +34,5 @@ int kind_has_table(enum kind kind)
 
 int kind_has_buffer(enum kind kind)
 {
-    return kind == TRAFFIC || kind == BENCH || kind == RECORD_WRITE;
+    return kind == TRAFFIC || kind == BENCH || kind == PLAIN || kind == RECORD_WRITE;
 }

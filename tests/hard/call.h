@@ -4,8 +4,9 @@
 #define CALL_H
 
 #include "card.h"
+#include "card_plain.h"
 
-enum kind { LOAD, MOVE, CLEAR, READ, TRAFFIC, BENCH, RECORD_READ, RECORD_WRITE, PLAN, KINDS };
+enum kind { LOAD, MOVE, CLEAR, READ, TRAFFIC, BENCH, RECORD_READ, RECORD_WRITE, PLAN, PLAIN, KINDS };
 
 enum { MOST_BYTES = 17 * 4096, MOST_SLOTS = 96 };
 

@@ -111,6 +111,29 @@ static void bench_as_traffic(const struct call *call, const struct outcome *give
          sent.answer == CARD_DONE && sent.numbers[0] == given->numbers[0] && bytes_same(&sent.buffer, &given->buffer));
 }
 
+/* The plain engine gives the bench's bits from `skip` on: the bench is asked for all bits up to the last. */
+static void plain_as_bench(const struct call *call, const struct outcome *given)
+{
+    static struct call bench;
+    static struct outcome whole;
+    struct bytes expected;
+
+    bench = *call;
+    bench.kind = BENCH;
+    bench.length = call->skip + call->length;
+    bench.buffer.count = CARD_KEYSTREAM_BITS / 8;
+    answer(&card_face, &bench, &given->table, &whole);
+    bytes_copy(&expected, &call->buffer);
+    for (size_t i = 0; i < call->length; i++) {
+        size_t at = call->skip + i;
+        int bit = whole.buffer.at[at / 8] >> (7 - at % 8) & 1;
+
+        expected.at[i / 8] = (uint8_t)((expected.at[i / 8] & ~(0x80 >> i % 8)) | bit << (7 - i % 8));
+    }
+    hold("the plain engine's bits aren't the bench's from the skip on",
+         whole.answer == CARD_DONE && bytes_same(&expected, &given->buffer));
+}
+
 static void hold_laws(const struct call *call, const struct table *before, const struct outcome *given)
 {
     if (given->answer != CARD_DONE)
@@ -119,6 +142,8 @@ static void hold_laws(const struct call *call, const struct table *before, const
         traffic_twice(call, before, given);
     else if (call->kind == BENCH)
         bench_as_traffic(call, given);
+    else if (call->kind == PLAIN)
+        plain_as_bench(call, given);
     else if (call->kind == RECORD_READ)
         written_as_read(call, before, given);
     else if (call->kind == RECORD_WRITE)

@@ -88,6 +88,12 @@ static void decode_bench(struct source *source, struct call *call)
     call->length = choose_length(source, bytes);
 }
 
+static void decode_plain(struct source *source, struct call *call)
+{
+    decode_bench(source, call);
+    call->skip = choose_first_bit(source, call->length, CARD_KEYSTREAM_BITS);
+}
+
 static void decode_record_write(struct source *source, struct call *call)
 {
     size_t bytes = source_byte(source) % 4 == 1 ? choose_buffer_count(source) : 100u + source_byte(source) % 16;
@@ -123,6 +129,7 @@ static void decode_kind(struct source *source, const struct table *table, struct
     case READ: call->number = choose_slot(source, table, 1); break;
     case TRAFFIC: decode_traffic(source, table, call); break;
     case BENCH: decode_bench(source, call); break;
+    case PLAIN: decode_plain(source, call); break;
     case RECORD_READ: text_decode(source, &call->buffer); break;
     case RECORD_WRITE: decode_record_write(source, call); break;
     default: decode_plan(source, call);

@@ -163,6 +163,19 @@ static void every_plan(void)
     }
 }
 
+/* From every ninth bit of the keystream on, and from those at a block's edge, up to the bit behind the last. */
+static void every_plain_skip(void)
+{
+    begin(PLAIN);
+    call.length = 1;
+    for (uint64_t skip = 0; skip <= CARD_KEYSTREAM_BITS; skip++) {
+        if (skip % 9 > 0 && (skip + 2) % 256 > 3)
+            continue;
+        call.skip = skip;
+        make();
+    }
+}
+
 unsigned long every_run(void)
 {
     every_key_and_iv_length();
@@ -175,5 +188,6 @@ unsigned long every_run(void)
     every_byte_of_a_slot();
     every_record_length();
     every_plan();
+    every_plain_skip();
     return calls;
 }

@@ -25,6 +25,7 @@ static const char listed[KINDS][ANSWERS] = {
     [RECORD_READ] = {[0] = 1, [15] = 1},
     [RECORD_WRITE] = {[0] = 1, [7] = 1, [1] = 1, [10] = 1, [11] = 1, [17] = 1},
     [PLAN] = {[0] = 1, [18] = 1, [19] = 1},
+    [PLAIN] = {[0] = 1, [1] = 1, [2] = 1, [3] = 1, [5] = 1, [4] = 1, [6] = 1},
 };
 
 static void count(const struct call *call, const struct outcome *outcome)

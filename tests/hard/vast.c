@@ -42,6 +42,21 @@ static void bench_buffer(const struct face *face, struct made *m)
     m->answer = face->bench(5, m->key, 24, m->iv, 10, vast, CUT + 64, 512, m->numbers);
 }
 
+static void plain_key(const struct face *face, struct made *m)
+{
+    m->answer = face->plain(5, vast, CUT + 24, m->iv, 10, m->buffer, 64, 512, 0, m->numbers);
+}
+
+static void plain_iv(const struct face *face, struct made *m)
+{
+    m->answer = face->plain(5, m->key, 24, vast, CUT + 10, m->buffer, 64, 512, 0, m->numbers);
+}
+
+static void plain_buffer(const struct face *face, struct made *m)
+{
+    m->answer = face->plain(5, m->key, 24, m->iv, 10, vast, CUT + 64, 512, 0, m->numbers);
+}
+
 static void traffic_table(const struct face *face, struct made *m)
 {
     m->answer =
@@ -106,6 +121,7 @@ unsigned long vast_run(void)
     static vast_call *const calls[] = {
         bench_key,  bench_iv,   bench_buffer, traffic_table, traffic_iv,  traffic_buffer,
         load_table, move_table, clear_table,  read_table,    record_read, record_write,
+        plain_key,  plain_iv,   plain_buffer,
     };
     enum { CALLS = sizeof calls / sizeof calls[0] };
     static struct made given, expected;

@@ -4,6 +4,7 @@
 #include <string.h>
 
 #include "bound.h"
+#include "card_plain.h"
 #include "oracle.h"
 #include "source.h"
 
@@ -54,6 +55,11 @@ static uint8_t make_traffic(void)
 static uint8_t make_bench(void)
 {
     return card_bench(algorithm, key, CARD_KEY_BYTES, iv, CARD_IV_BYTES, buffer, sizeof buffer, length, &blocks);
+}
+
+static uint8_t make_plain(void)
+{
+    return card_plain(algorithm, key, CARD_KEY_BYTES, iv, CARD_IV_BYTES, buffer, sizeof buffer, length, skip, &blocks);
 }
 
 static uint8_t make_record_read(void)
@@ -172,6 +178,12 @@ static const struct bar its_cipher = {
     {{[THE_KEY] = 24, [KEYSTREAM] = 16}},
 };
 
+/* The plain engine: its schedule is bytes, and its own. */
+static const struct bar its_plain = {
+    {{[THE_KEY] = 24, [MODE_KEY] = 24, [MODE_VALUE] = 24, [SCHEDULE] = 456, [KEYSTREAM] = 32}},
+    {{[THE_KEY] = 24, [MODE_KEY] = 24, [MODE_VALUE] = 24, [KEYSTREAM] = 32}},
+};
+
 /* The records: the key, and its digits in registers. */
 static const struct bar its_text = {{{[THE_KEY] = 24}}, {{[THE_KEY] = 24, [KEY_AS_TEXT] = 32}}};
 
@@ -191,6 +203,7 @@ const struct keyed_call keyed_calls[KEYED_CALLS] = {
     {"  with 16, fields", traffic_beside_bad_fields, CARD_TABLE, &nothing},
     {"card_bench", make_bench, CARD_DONE, &its_cipher},
     {"  refused with 4", refused_bench, CARD_LENGTH, &nothing},
+    {"card_plain", make_plain, CARD_DONE, &its_plain},
     {"card_record_read", make_record_read, CARD_DONE, &its_text},
     {"card_record_write", make_record_write, CARD_DONE, &its_text},
     {"Rust load", rust_load, CARD_DONE, &nothing},

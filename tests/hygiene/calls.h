@@ -18,7 +18,7 @@ struct keyed_call {
     const struct bar *bar;
 };
 
-enum { KEYED_CALLS = 25 };
+enum { KEYED_CALLS = 26 };
 
 extern const struct keyed_call keyed_calls[KEYED_CALLS];
 

@@ -1,9 +1,10 @@
-/* The second program for C: each call of include/card.h by its second name, and what a call makes of a key. */
+/* The second program for C: each call of include/card.h and card_plain.h by its second name, and what a call makes of a key. */
 
 #ifndef ORACLE_H
 #define ORACLE_H
 
 #include "card.h"
+#include "card_plain.h"
 
 extern __typeof__(card_load) oracle_load;
 extern __typeof__(card_move) oracle_move;
@@ -11,6 +12,7 @@ extern __typeof__(card_clear) oracle_clear;
 extern __typeof__(card_read) oracle_read;
 extern __typeof__(card_traffic) oracle_traffic;
 extern __typeof__(card_bench) oracle_bench;
+extern __typeof__(card_plain) oracle_plain;
 extern __typeof__(card_record_read) oracle_record_read;
 extern __typeof__(card_record_write) oracle_record_write;
 extern __typeof__(card_plan) oracle_plan;

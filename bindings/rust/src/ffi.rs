@@ -1,4 +1,4 @@
-//! All that is unsafe: the calls of include/card.h behind functions that are safe, and overwriting what
+//! All that is unsafe: the calls of include/card.h and card_plain.h behind functions that are safe, and overwriting what
 //! must not stay in memory.
 //!
 //! The header asks three things of its callers. Pointers that aren't null and are good for their length:
@@ -67,6 +67,20 @@ extern "C" {
         buffer: *mut u8,
         buffer_bytes: usize,
         length: usize,
+        blocks: *mut usize,
+    ) -> u8;
+
+    #[cfg(feature = "plain")]
+    fn card_plain(
+        algorithm: u64,
+        key: *const u8,
+        key_bytes: usize,
+        iv: *const u8,
+        iv_bytes: usize,
+        buffer: *mut u8,
+        buffer_bytes: usize,
+        length: usize,
+        skip: usize,
         blocks: *mut usize,
     ) -> u8;
 
@@ -238,6 +252,34 @@ pub fn bench(
         )
     };
     wipe::stack_below();
+    answered(answer, blocks)
+}
+
+#[cfg(feature = "plain")]
+pub fn plain(
+    algorithm: u64,
+    key: &[u8],
+    iv: &[u8],
+    buffer: &mut [u8],
+    length: usize,
+    skip: usize,
+) -> Result<usize, Refusal> {
+    let mut blocks = 0;
+    // Safety: each pointer is good for its length, and the library keeps none of them.
+    let answer = unsafe {
+        card_plain(
+            algorithm,
+            key.as_ptr(),
+            key.len(),
+            iv.as_ptr(),
+            iv.len(),
+            buffer.as_mut_ptr(),
+            buffer.len(),
+            length,
+            skip,
+            &mut blocks,
+        )
+    };
     answered(answer, blocks)
 }
 

@@ -8,6 +8,8 @@ mod code;
 mod ffi;
 mod fields;
 mod key;
+#[cfg(feature = "plain")]
+mod plain;
 mod plan;
 mod record;
 mod refusal;
@@ -20,6 +22,8 @@ pub use bench::bench;
 pub use code::{Algorithm, Code, Direction, PduKind, Use, KEEP};
 pub use fields::{Asked, Fields};
 pub use key::Key;
+#[cfg(feature = "plain")]
+pub use plain::plain;
 pub use plan::{plan, Pdu};
 pub use record::{record_read, record_write, slotlist, Record};
 pub use refusal::Refusal;

@@ -14,11 +14,11 @@ use crate::compare::Call;
 use crate::face::{self, Benched};
 
 pub struct Bench {
-    algorithm: u64,
-    key: Vec<u8>,
-    iv: Vec<u8>,
-    buffer: Vec<u8>,
-    length: u64,
+    pub algorithm: u64,
+    pub key: Vec<u8>,
+    pub iv: Vec<u8>,
+    pub buffer: Vec<u8>,
+    pub length: u64,
 }
 
 impl Call for Bench {

@@ -157,8 +157,13 @@ pub fn span(generator: &mut Generator, buffer_bytes: usize) -> Span {
     Span {
         start: first_bit(generator, length, 8 * buffer_bytes as u64),
         length,
-        skip: first_bit(generator, length, KEYSTREAM_BITS as u64),
+        skip: skip(generator, length),
     }
+}
+
+/// The first keystream bit of so many: mostly so that the last of them is one.
+pub fn skip(generator: &mut Generator, length: u64) -> u64 {
+    first_bit(generator, length, KEYSTREAM_BITS as u64)
 }
 
 /// The first of so many bits: mostly so that the last of them lies below the end, or at it.

@@ -22,6 +22,19 @@ extern "C" {
         blocks: *mut usize,
     ) -> u8;
 
+    fn card_plain(
+        algorithm: u64,
+        key: *const u8,
+        key_len: usize,
+        iv: *const u8,
+        iv_len: usize,
+        buf: *mut u8,
+        buf_len: usize,
+        n: usize,
+        skip: usize,
+        blocks: *mut usize,
+    ) -> u8;
+
     fn card_plan(
         kind: u64,
         state: u64,
@@ -85,6 +98,43 @@ pub fn bench(
             lent_buffer.pointer(),
             buffer.len(),
             n as usize,
+            blocks.pointer(),
+        )
+    };
+    lent_key.taken_back_unchanged(key)?;
+    lent_iv.taken_back_unchanged(iv)?;
+    let [blocks] = blocks.taken_back()?;
+    Ok(Benched {
+        refusal: refusal.into(),
+        blocks: blocks as u64,
+        buffer: lent_buffer.taken_back()?.to_vec(),
+    })
+}
+
+pub fn plain(
+    algorithm: u64,
+    key: &[u8],
+    iv: &[u8],
+    buffer: &[u8],
+    n: u64,
+    skip: u64,
+) -> Result<Benched, String> {
+    let mut lent_key = Guarded::new("the key", key);
+    let mut lent_iv = Guarded::new("the initial value", iv);
+    let mut lent_buffer = Guarded::new("the buffer", buffer);
+    let mut blocks = GuardedArray::new("the blocks");
+    // Safety: each pointer is good for its length, and the library keeps none of them.
+    let refusal = unsafe {
+        card_plain(
+            algorithm,
+            lent_key.pointer(),
+            key.len(),
+            lent_iv.pointer(),
+            iv.len(),
+            lent_buffer.pointer(),
+            buffer.len(),
+            n as usize,
+            skip as usize,
             blocks.pointer(),
         )
     };

@@ -1,4 +1,4 @@
-//! The card's static library against the second program. Usage: differential SEED RUNS.
+//! The card's static libraries against the second program. Usage: differential SEED RUNS.
 
 mod bench;
 mod choose;
@@ -7,6 +7,7 @@ mod damage;
 mod face;
 mod guarded;
 mod lists;
+mod plain;
 mod plan;
 mod record_read;
 mod record_write;
@@ -21,6 +22,7 @@ use std::process::ExitCode;
 use bench::Bench;
 use compare::compare;
 use lists::Step;
+use plain::Plain;
 use plan::Plan;
 use record_read::RecordReading;
 use record_write::RecordWriting;
@@ -28,8 +30,9 @@ use record_write::RecordWriting;
 type Comparison = fn(u64, u64) -> Result<String, String>;
 
 /// Every call that is compared.
-const COMPARISONS: [Comparison; 5] = [
+const COMPARISONS: [Comparison; 6] = [
     compare::<Bench>,
+    compare::<Plain>,
     compare::<Plan>,
     compare::<RecordReading>,
     compare::<RecordWriting>,

@@ -5,6 +5,7 @@
 #include <string.h>
 
 #include "card.h"
+#include "card_plain.h"
 
 #ifndef SUBJECT
 #define SUBJECT card
@@ -23,6 +24,7 @@ extern __typeof__(card_bench) REAL(bench), WRAP(bench);
 extern __typeof__(card_record_read) REAL(record_read), WRAP(record_read);
 extern __typeof__(card_record_write) REAL(record_write), WRAP(record_write);
 extern __typeof__(card_plan) REAL(plan), WRAP(plan);
+extern __typeof__(card_plain) REAL(plain), WRAP(plain);
 
 enum {
     BYTE_AFTER_BUFFER = 1,
@@ -49,7 +51,8 @@ enum {
     BENCH_STARTS_LATE,
     RECORD_READ_LAX,
     RECORD_WRITE_LAX,
-    PLAN_SKIPS_ONE_LESS
+    PLAN_SKIPS_ONE_LESS,
+    PLAIN_SKIPS_BLOCKS
 };
 
 #define IS(fault) (BREAK == (fault))
@@ -145,6 +148,14 @@ uint8_t WRAP(bench)(uint64_t algorithm, const uint8_t *key, size_t key_bytes, co
     if (IS(BENCH_STARTS_LATE) && answer == CARD_DONE)
         buffer[0] ^= 0x80;
     return answer;
+}
+
+uint8_t WRAP(plain)(uint64_t algorithm, const uint8_t *key, size_t key_bytes, const uint8_t *iv, size_t iv_bytes,
+                    uint8_t *buffer, size_t bytes, size_t length, size_t skip, size_t *blocks)
+{
+    if (IS(PLAIN_SKIPS_BLOCKS) && skip <= CARD_KEYSTREAM_BITS)
+        skip -= skip % 256;
+    return REAL(plain)(algorithm, key, key_bytes, iv, iv_bytes, buffer, bytes, length, skip, blocks);
 }
 
 uint8_t WRAP(record_read)(const uint8_t *text, size_t text_bytes, uint64_t *shown, uint8_t *key, size_t *used,

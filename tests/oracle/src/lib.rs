@@ -39,6 +39,29 @@ pub unsafe extern "C" fn oracle_bench(
 /// # Safety
 /// As for the crate.
 #[no_mangle]
+pub unsafe extern "C" fn oracle_plain(
+    algorithm: u64,
+    key: *const u8,
+    key_bytes: usize,
+    iv: *const u8,
+    iv_bytes: usize,
+    buffer: *mut u8,
+    buffer_bytes: usize,
+    length: usize,
+    skip: usize,
+    blocks: *mut usize,
+) -> u8 {
+    let key = from_raw_parts(key, key_bytes);
+    let iv = from_raw_parts(iv, iv_bytes);
+    let buffer = from_raw_parts_mut(buffer, buffer_bytes);
+    let answer = card::bench_from(algorithm, key, iv, buffer, length as u64, skip as u64);
+    *blocks = answer.blocks as usize;
+    answer.refusal as u8
+}
+
+/// # Safety
+/// As for the crate.
+#[no_mangle]
 pub unsafe extern "C" fn oracle_plan(
     kind: u64,
     state: u64,

@@ -99,7 +99,19 @@ impl Answer {
 /// Writes keystream bits 0 to `length - 1` over the buffer's first bits.
 /// Refusals 1, 2, 3, 5, 4, 6.
 pub fn bench(algorithm: u64, key: &[u8], iv: &[u8], buffer: &mut [u8], length: u64) -> Answer {
-    Answer::new(checked_bench(algorithm, key, iv, buffer, length))
+    bench_from(algorithm, key, iv, buffer, length, 0)
+}
+
+/// The same from keystream bit `skip` on, which is given to the buffer's bit 0. Refusals as the bench call's.
+pub fn bench_from(
+    algorithm: u64,
+    key: &[u8],
+    iv: &[u8],
+    buffer: &mut [u8],
+    length: u64,
+    skip: u64,
+) -> Answer {
+    Answer::new(checked_bench(algorithm, key, iv, buffer, length, skip))
 }
 
 fn checked_bench(
@@ -108,11 +120,12 @@ fn checked_bench(
     iv: &[u8],
     buffer: &mut [u8],
     length: u64,
+    skip: u64,
 ) -> Result<u64, Refusal> {
     let from_the_front = Span {
         start: 0,
         length,
-        skip: 0,
+        skip,
     };
     let setting = Setting::checked(algorithm, key, iv)?;
     let span = from_the_front.fitted(buffer.len())?;

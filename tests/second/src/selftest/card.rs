@@ -3,7 +3,7 @@
 use super::slots::{small_table, KEY};
 use super::{same, same_order, Check, Finding};
 use crate::bits::bit_at;
-use crate::card::{bench, traffic, Answer, Span, BUFFER_BYTES};
+use crate::card::{bench, bench_from, traffic, Answer, Span, BUFFER_BYTES};
 use crate::generator::Generator;
 use crate::refusals::*;
 use crate::slots::{Slot, BOTH, RECEIVE, SEND};
@@ -11,6 +11,7 @@ use crate::slots::{Slot, BOTH, RECEIVE, SEND};
 pub const CHECKS: &[Check] = &[
     ("bench order", bench_order),
     ("bench bits", bench_bits),
+    ("bench from a bit", bench_from_a_bit),
     ("blocks", blocks),
     ("traffic order", traffic_order),
     ("traffic rights", traffic_rights),
@@ -105,6 +106,35 @@ fn bench_bits() -> Finding {
         }
     }
     Ok(())
+}
+
+/// The skip names the first keystream bit given, and counts in the length's refusal; the buffer's start stays bit 0.
+fn bench_from_a_bit() -> Finding {
+    let whole = BenchCall {
+        buffer: vec![0; 1036],
+        length: 8288,
+        ..BenchCall::good()
+    };
+    let (keystream, before) = (whole.run().1, vec![0xa5; 40]);
+    for skip in [0, 1, 8, 255, 256, 7988] {
+        let mut found = before.clone();
+        let answer = bench_from(5, &KEY, &[1; 10], &mut found, 300, skip as u64);
+        same("refusal", answer.refusal, DONE)?;
+        for place in 0..320 {
+            let wanted = if place < 300 {
+                bit_at(&keystream, skip + place)
+            } else {
+                bit_at(&before, place)
+            };
+            same("bit", bit_at(&found, place), wanted)?;
+        }
+    }
+    let past = bench_from(5, &KEY, &[1; 10], &mut [0; 40], 300, 7989);
+    same(
+        "refusal past the keystream",
+        past.refusal,
+        LENGTH_OUT_OF_RANGE,
+    )
 }
 
 fn blocks() -> Finding {
