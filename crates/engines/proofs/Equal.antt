@@ -1,10 +1,11 @@
 -- The plain engine is the quick one: by the two contracts, for every input, refused ones too, and once for all three algorithms. At skip 0
 -- it is the bench call. Assumes nothing.
 -- `Learnt`, of a function's module, is its `ensures` as it stands in the source: of the arguments, the result r, and e, the parameters at exit.
-use mathlib.Core.Path.{_≡_, sym, _∙_}
+use mathlib.Core.Path.{_≡_, sym, ap, _∙_}
 use mathlib.Core.List.{List}
 use Prim.Native.Nat.{ℕ}
 use denote.Ref.{RefT}
+use Rattle.card.specs.Span.{Ciphered}
 use Rattle.card.proofs.bench.card_bench.Reads as card-bench
 use Rattle.plain.specs.Given.{givenRefusal, given, givenBlocks}
 use Rattle.plain.proofs.Given.{given-bench}
@@ -32,7 +33,7 @@ module _ (algorithm n : ℕ) (key iv buf key′ iv′ buf′ : RefT (List ℕ)) 
       → (r ≡ s) × (e .1 .1 .1 .0 .now ≡ e′ .1 .1 .1 .0 .now) × (e .1 .1 .1 .1 .1 .1 .0 .now ≡ e′ .1 .1 .1 .1 .1 .0 .now)
   plain-is-bench r s κs κs′ e e′ p q =
       let same = given-bench algorithm (key′ .now) (iv′ .now) (buf′ .now) n in (
-        p .0 ∙ (λ i. givenRefusal algorithm (same-key i) (same-iv i) (same-buf i) n 0) ∙ same .0 ∙ sym (q .0),
-        p .1 ∙ (λ i. given algorithm (same-key i) (same-iv i) (same-buf i) n 0) ∙ same .1 ∙ sym (q .1),
-        p .2 ∙ (λ i. givenBlocks algorithm (same-key i) (same-iv i) (same-buf i) n 0) ∙ same .2 ∙ sym (q .2),
+        p .0 ∙ (λ i. givenRefusal algorithm (same-key i) (same-iv i) (same-buf i) n 0) ∙ same .0 ∙ sym (ap (λ (x : Ciphered). x .refusal) q),
+        p .1 ∙ (λ i. given algorithm (same-key i) (same-iv i) (same-buf i) n 0) ∙ same .1 ∙ sym (ap (λ (x : Ciphered). x .buffer) q),
+        p .2 ∙ (λ i. givenBlocks algorithm (same-key i) (same-iv i) (same-buf i) n 0) ∙ same .2 ∙ sym (ap (λ (x : Ciphered). x .blocks) q),
       )

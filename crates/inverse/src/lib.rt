@@ -10,9 +10,9 @@ ghost use Rattle.inv_bytes.specs.Bytes.{invSBoxes};
 ghost use Rattle.inverse.specs.Decipher.{invRoundOf, invFinalRound, decrypted, decipher};
 use inv_bytes::inv_s_box_table;
 use inv_parts::inv_shift_row;
-use rounds::add_round_key;
 use rijndael::to_block;
 use rijndael::to_state;
+use rounds::add_round_key;
 use steps::inv_byte_sub;
 use steps::inv_mix_column;
 

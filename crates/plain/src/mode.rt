@@ -4,8 +4,8 @@ ghost use Prim.Native.Nat.{_+_, _*_, _/_, _%_};
 ghost use Rattle.tea.specs.Mixing.{mixedValue};
 ghost use Rattle.tea.specs.Mode.{combined, modeBy, modeOf};
 use crate::mixing::byte;
-use tea::algorithms::combining_table;
-use tea::algorithms::digit;
+use algorithms::combining_table;
+use algorithms::digit;
 use tea::mode::Mode;
 
 // f of the first four bits of a byte of CK and of a byte of IVX.

@@ -19,9 +19,9 @@ use Rattle.laws.specs.Lists.{tabulate}
 use Rattle.laws.proofs.Cases.{eq-or-ne}
 use Rattle.laws.proofs.Lists.{length-tabulate, getD-tabulate, tabulate-ext, tabulate-at}
 use Rattle.field.specs.Field.{sBox}
-use Rattle.rijndael.specs.Words.{join, byteOf}
-use Rattle.rijndael.specs.Schedule.{rotByte, subByte, carried, keyWord}
-use Rattle.rijndael.proofs.KeyWords.{word-next}
+use Rattle.words.specs.Words.{join, byteOf}
+use Rattle.schedule.specs.Schedule.{rotByte, subByte, carried, keyWord}
+use Rattle.schedule.proofs.KeyWords.{word-next}
 use Rattle.plain_schedule.specs.Bytes.{wordOf, wordsOf}
 
 -- the entries of a parameter `[u8; n]` are bytes, and those of a parameter `[[u8; 4]; 120]`: `(c .good .0)` at the function's entry

@@ -3,7 +3,7 @@ use mathlib.Core.List.{List, []}
 use Prim.Native.Nat.{ℕ}
 use lib.ListN.{getD}
 use Rattle.laws.specs.Lists.{tabulate}
-use Rattle.rijndael.specs.Words.{join}
+use Rattle.words.specs.Words.{join}
 
 -- the word of four bytes
 unfoldable pub wordOf : List ℕ → ℕ

@@ -5,7 +5,7 @@ ghost use Prim.Native.Nat.{_<_, _≤_, _-_};
 ghost use lib.Bits.{bitXor};
 ghost use lib.ListN.{getD};
 ghost use Rattle.laws.specs.Lists.{tabulate};
-ghost use Rattle.rijndael.specs.Schedule.{rotByte, subByte, roundConstant, carried, packed, keyWord};
+ghost use Rattle.schedule.specs.Schedule.{rotByte, subByte, roundConstant, carried, packed, keyWord};
 ghost use Rattle.plain_schedule.specs.Bytes.{wordOf, wordsOf};
 use plain_field::galois::xtime;
 use plain_field::s_box::s_box;

@@ -4,7 +4,7 @@ use Prim.Native.Nat.{ℕ, _*_}
 use borrow.Author.Needs.{needs}
 use borrow.Author.Tests.{eq-eqb, ne-eqb}
 use lib.Bits.{bitXor}
-use Rattle.rijndael.specs.Schedule.{subByte, carried}
+use Rattle.schedule.specs.Schedule.{subByte, carried}
 use Rattle.plain_schedule.proofs.Words.{first-alone}
 use Rattle.plain_schedule.proofs.carried.Statement.{statement}
 use Rattle.plain_schedule.proofs.carried.Tie as tie

@@ -6,8 +6,8 @@ use Prim.Native.Nat.{ℕ, _+_, _-_, _<_, _≤_}
 use native.Mathlib.Omega.{arith}
 use borrow.Author.Needs.{needs}
 use lib.ListN.{length, set, length-set}
-use Rattle.rijndael.specs.Schedule.{keyWord}
-use Rattle.rijndael.proofs.KeyWords.{word-first}
+use Rattle.schedule.specs.Schedule.{keyWord}
+use Rattle.schedule.proofs.KeyWords.{word-first}
 use Rattle.plain_schedule.specs.Bytes.{wordOf}
 use Rattle.plain_schedule.proofs.Words.{Expanded, expanded-more, expanded-next, expanded-all}
 use Rattle.plain_schedule.proofs.key_expansion.Statement.{statement}

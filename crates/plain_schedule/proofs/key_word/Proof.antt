@@ -1,7 +1,7 @@
 -- `plain_schedule::key_word`: four bytes of the key. Assumes nothing.
 use mathlib.Core.Path.{refl}
 use borrow.Author.Needs.{needs}
-use Rattle.rijndael.specs.Schedule.{packed}
+use Rattle.schedule.specs.Schedule.{packed}
 use Rattle.plain_schedule.specs.Bytes.{wordOf}
 use Rattle.plain_schedule.proofs.key_word.Statement.{statement}
 use Rattle.plain_schedule.proofs.key_word.Tie as tie

@@ -5,7 +5,7 @@ use native.Mathlib.Numerals.{add-one}
 use native.Mathlib.Omega.{arith}
 use borrow.Author.Needs.{needs}
 use Rattle.field.specs.Field.{timesZ}
-use Rattle.rijndael.specs.Schedule.{roundConstant}
+use Rattle.schedule.specs.Schedule.{roundConstant}
 use Rattle.plain_schedule.proofs.round_constant.Statement.{statement}
 use Rattle.plain_schedule.proofs.round_constant.Tie as tie
 

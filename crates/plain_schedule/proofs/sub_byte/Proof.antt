@@ -1,7 +1,7 @@
 -- `plain_schedule::sub_byte`: byte by byte. Assumes nothing.
 use mathlib.Core.Path.{_∙_}
 use borrow.Author.Needs.{needs}
-use Rattle.rijndael.specs.Words.{join}
+use Rattle.words.specs.Words.{join}
 use Rattle.plain_schedule.specs.Bytes.{wordOf}
 use Rattle.plain_schedule.proofs.Words.{array-bytes, sub-join}
 use Rattle.plain_schedule.proofs.sub_byte.Statement.{statement}

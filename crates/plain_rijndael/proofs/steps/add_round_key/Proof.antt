@@ -1,16 +1,16 @@
--- `plain_rijndael::steps::add_round_key`: cell by cell, `Rows`; a byte of a word is the byte that is held. Assumes nothing.
+-- `plain_rounds::add_round_key`: cell by cell, `Rows`; a byte of a word is the byte that is held. Assumes nothing.
 use mathlib.Core.Path.{_≡_, ap}
 use Prim.Native.Nat.{ℕ, _+_, _-_, _*_, _<_, _≤_}
 use native.Mathlib.Omega.{arith}
 use borrow.Author.Needs.{needs}
 use lib.Bits.{bitXor}
 use lib.ListN.{getD}
-use Rattle.rijndael.specs.Steps.{addRoundKey}
+use Rattle.rounds.specs.Steps.{addRoundKey}
 use Rattle.laws.proofs.States.{Rows, rows-none, rows-more, rows-next, rows-all, state-shape}
 use Rattle.laws.specs.Lists.{cell}
 use Rattle.plain_rijndael.proofs.steps.add_round_key.Statement.{statement}
 use Rattle.plain_rijndael.proofs.steps.add_round_key.Tie as tie
-use Rattle.rijndael.specs.Words.{byteOf}
+use Rattle.words.specs.Words.{byteOf}
 use Rattle.plain_schedule.specs.Bytes.{wordsOf}
 use Rattle.plain_schedule.proofs.Words.{words-bytes, word-byte}
 

@@ -1,10 +1,10 @@
--- `plain_rijndael::steps::byte_sub`: cell by cell, `Rows`. Assumes nothing.
+-- `plain_rounds::byte_sub`: cell by cell, `Rows`. Assumes nothing.
 use mathlib.Core.Path.{_≡_}
 use Prim.Native.Nat.{_-_, _<_, _≤_}
 use native.Mathlib.Omega.{arith}
 use borrow.Author.Needs.{needs}
 use Rattle.field.specs.Field.{sBox}
-use Rattle.rijndael.specs.Steps.{byteSub}
+use Rattle.rounds.specs.Steps.{byteSub}
 use Rattle.laws.proofs.States.{Rows, rows-none, rows-more, rows-next, rows-all, state-shape}
 use Rattle.laws.specs.Lists.{cell}
 use Rattle.plain_rijndael.proofs.steps.byte_sub.Statement.{statement}

@@ -1,4 +1,4 @@
--- `plain_rijndael::steps::final_round`: by the steps' own contracts. Assumes nothing.
+-- `plain_rounds::final_round`: by the steps' own contracts. Assumes nothing.
 use borrow.Author.Needs.{needs}
 use Rattle.plain_rijndael.proofs.steps.final_round.Statement.{statement}
 use Rattle.plain_rijndael.proofs.steps.final_round.Tie as tie

@@ -1,9 +1,9 @@
--- `plain_rijndael::steps::mix_column`: cell by cell, `Rows`. Assumes nothing.
+-- `plain_rounds::mix_column`: cell by cell, `Rows`. Assumes nothing.
 use mathlib.Core.Path.{_≡_}
 use Prim.Native.Nat.{_+_, _-_, _%_, _<_, _≤_}
 use native.Mathlib.Omega.{arith}
 use borrow.Author.Needs.{needs}
-use Rattle.rijndael.specs.Steps.{mixedByte, mixColumn}
+use Rattle.rounds.specs.Steps.{mixedByte, mixColumn}
 use Rattle.laws.proofs.States.{Rows, rows-none, rows-more, rows-next, rows-all, state-shape}
 use Rattle.laws.specs.Lists.{cell}
 use Rattle.plain_rijndael.proofs.steps.mix_column.Statement.{statement}

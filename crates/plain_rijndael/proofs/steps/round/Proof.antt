@@ -1,4 +1,4 @@
--- `plain_rijndael::steps::round`: by the steps' own contracts. Assumes nothing.
+-- `plain_rounds::round`: by the steps' own contracts. Assumes nothing.
 use borrow.Author.Needs.{needs}
 use Rattle.plain_rijndael.proofs.steps.round.Statement.{statement}
 use Rattle.plain_rijndael.proofs.steps.round.Tie as tie

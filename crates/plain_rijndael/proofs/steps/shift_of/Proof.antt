@@ -1,8 +1,8 @@
--- `plain_rijndael::steps::shift_of`: row by row. Assumes nothing.
+-- `plain_rounds::shift_of`: row by row. Assumes nothing.
 use mathlib.Core.Path.{_≡_, sym, ap}
 use native.Mathlib.Omega.{arith}
 use borrow.Author.Needs.{needs}
-use Rattle.rijndael.specs.Steps.{shiftOf}
+use Rattle.rounds.specs.Steps.{shiftOf}
 use Rattle.plain_rijndael.proofs.steps.shift_of.Statement.{statement}
 use Rattle.plain_rijndael.proofs.steps.shift_of.Tie as tie
 

@@ -1,4 +1,4 @@
--- `plain_rijndael::steps::shift_row`: cell by cell, `Rows`. Assumes nothing.
+-- `plain_rounds::shift_row`: cell by cell, `Rows`. Assumes nothing.
 use mathlib.Core.Path.{_≡_, ap}
 use Prim.Native.Nat.{ℕ, _+_, _-_, _%_, _<_, _≤_, zero-le}
 use native.Mathlib.Omega.{arith}
@@ -6,7 +6,7 @@ use borrow.Author.Needs.{needs}
 use borrow.Author.Tests.{ltb-true}
 use lib.Dec.{ltb}
 use Rattle.laws.proofs.Tests.{holds}
-use Rattle.rijndael.specs.Steps.{shiftOf, shiftRow}
+use Rattle.rounds.specs.Steps.{shiftOf, shiftRow}
 use Rattle.laws.proofs.States.{Rows, rows-none, rows-more, rows-next, rows-all, state-shape}
 use Rattle.laws.specs.Lists.{cell}
 use Rattle.plain_rijndael.proofs.steps.shift_row.Statement.{statement}
