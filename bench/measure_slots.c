@@ -27,7 +27,7 @@ static uint8_t read(struct card_slot *table)
 
 static uint8_t move(struct card_slot *table)
 {
-    return card_move(table, CARD_SLOTS, FROM, TO, CARD_KEEP);
+    return card_move(table, CARD_SLOTS, FROM, TO, CARD_FOR_BOTH);
 }
 
 static uint8_t clear(struct card_slot *table)

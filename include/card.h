@@ -41,7 +41,7 @@ enum card_answer {
     CARD_SIDE_OR_PLACE = 11, /* side above 1 or place above 79 */
     CARD_DIRECTION = 12,     /* use doesn't include the direction */
     CARD_IV_SIDE = 13,       /* the initial value's side bit is wrong */
-    CARD_USE_WIDER = 14,     /* asked use not within the present use */
+    CARD_USE_WIDER = 14,     /* asked use not within the present use, or 0 asked of a key for both */
     CARD_RECORD_TEXT = 15,   /* record text bad; line 1..7 given */
     CARD_TABLE = 16,         /* table not 32 records, or a bad slot in it */
     CARD_RECORD_ROOM = 17,   /* record text longer than the buffer */
@@ -61,7 +61,7 @@ enum card_size {
 
 enum card_algorithm { CARD_TEA5 = 5, CARD_TEA6 = 6, CARD_TEA7 = 7 };
 
-/* What a key is for. 'Keep' is only for a move. */
+/* What a key is for. 'Keep' is only for a move, of a key that isn't for both. */
 enum card_use { CARD_KEEP = 0, CARD_FOR_SENDING = 1, CARD_FOR_RECEIVING = 2, CARD_FOR_BOTH = 3 };
 
 enum card_direction { CARD_SEND = 1, CARD_RECEIVE = 2 };
@@ -97,8 +97,9 @@ _Static_assert(offsetof(struct card_slot, key) == 6, "its key starts at byte 6")
 uint8_t card_load(struct card_slot *table, size_t slots, uint64_t number, uint16_t version, uint64_t algorithm,
                   uint64_t usage, uint64_t side, uint64_t place, const uint8_t key[CARD_KEY_BYTES]);
 
-/* Carries slot `from` to the empty slot `to`, and empties `from`. Asked CARD_KEEP keeps the use; any other use is the
-   use in `to`, and must lie within the present one. A slot moved to itself is refused with 9.
+/* Carries slot `from` to the empty slot `to`, and empties `from`. The asked use is the use in `to`, and must lie
+   within the present one. CARD_KEEP keeps a use for sending or for receiving; a key for both is refused it with 14, and
+   stays one for both where CARD_FOR_BOTH is asked. A slot moved to itself is refused with 9.
    Refused: 16, 7 (either number), 8, 9, 10, 14. */
 uint8_t card_move(struct card_slot *table, size_t slots, uint64_t from, uint64_t to, uint64_t asked);
 

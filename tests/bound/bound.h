@@ -11,7 +11,7 @@ uint8_t bound_take(const struct card_slot *table);
 /* For both uses, on side 0. */
 uint8_t bound_load(uint64_t number, uint64_t algorithm, uint64_t place, const uint8_t key[CARD_KEY_BYTES]);
 
-/* Keeps the use. */
+/* Asks for both uses. */
 uint8_t bound_move(uint64_t from, uint64_t to);
 
 uint8_t bound_clear(uint64_t number);

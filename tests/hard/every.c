@@ -17,8 +17,8 @@ static void begin(enum kind kind)
     table.at[0] = (struct card_slot){.version = 1, .algorithm = CARD_TEA6, .usage = CARD_FOR_BOTH};
     memset(table.at[0].key, 0x3c, CARD_KEY_BYTES);
     memset(&call, 0, sizeof call);
-    call = (struct call){.kind = kind, .number = 1, .to = 2, .algorithm = CARD_TEA5, .usage = CARD_FOR_SENDING,
-                         .direction = CARD_SEND, .length = 9};
+    call = (struct call){.kind = kind, .number = 1, .to = 2, .asked = CARD_FOR_BOTH, .algorithm = CARD_TEA5,
+                         .usage = CARD_FOR_SENDING, .direction = CARD_SEND, .length = 9};
     call.key.count = CARD_KEY_BYTES;
     call.iv.count = CARD_IV_BYTES;
     call.buffer.count = 2;
@@ -129,6 +129,18 @@ static void every_byte_of_a_slot(void)
         }
 }
 
+/* Every use, asked for each other and for what no use is. */
+static void every_pair_of_uses(void)
+{
+    for (uint8_t present = CARD_FOR_SENDING; present <= CARD_FOR_BOTH; present++)
+        for (uint64_t asked = CARD_KEEP; asked <= CARD_FOR_BOTH + 1; asked++) {
+            begin(MOVE);
+            table.at[0].usage = present;
+            call.asked = asked;
+            make();
+        }
+}
+
 static void every_record_length(void)
 {
     static const char record[] = "number=32\nversion=65535\nalg=TEA7\nuse=BOTH\nside=1\nplace=79\n"
@@ -186,6 +198,7 @@ unsigned long every_run(void)
     every_wrap();
     every_number_of_slots();
     every_byte_of_a_slot();
+    every_pair_of_uses();
     every_record_length();
     every_plan();
     every_plain_skip();

@@ -33,7 +33,7 @@ static uint8_t make_load(void)
 
 static uint8_t make_move(void)
 {
-    return card_move(table, CARD_SLOTS, number, target, CARD_KEEP);
+    return card_move(table, CARD_SLOTS, number, target, CARD_FOR_BOTH);
 }
 
 static uint8_t make_clear(void)

@@ -71,7 +71,21 @@ pub struct Code<T> {
     kind: PhantomData<T>,
 }
 
-/// Asked on a move, it keeps the use.
+/// Asked on a move, it keeps the use of a key for sending or for receiving. A key for both is refused it with 14:
+/// where it is to stay one for both, [`Use::Both`] is asked.
+///
+/// ```
+/// use card::{Algorithm, Fields, Refusal, Table, Use, KEEP};
+///
+/// let fields = Fields { version: 0, algorithm: Algorithm::Tea5, usage: Use::Both, side: 0, place: 0 };
+/// let mut table = Table::new();
+/// table.load(1, fields, &[7; 24])?;
+/// assert_eq!(table.move_slot(1, 2, KEEP), Err(Refusal::UseWider));
+/// table.move_slot(1, 2, Use::Both)?;
+/// table.move_slot(2, 1, Use::Send)?;
+/// table.move_slot(1, 2, KEEP)?;
+/// # Ok::<(), Refusal>(())
+/// ```
 pub const KEEP: Code<Use> = Code::new(0);
 
 impl<T> Code<T> {

@@ -42,7 +42,7 @@ pub enum Refusal {
     Direction,
     /// 13: the initial value's side bit is wrong.
     IvSide,
-    /// 14: asked use not within the present use.
+    /// 14: asked use not within the present use, or 0 asked of a key for both.
     UseWider,
     /// 15: record text bad.
     RecordText {
@@ -99,7 +99,7 @@ const SENTENCES: [&str; 19] = [
     "the side is above 1 or the place above 79; look at these two numbers",
     "the key's use doesn't include this direction; look at the use letter of the slot's record",
     "the initial value's side bit is wrong for this direction; look at the slot's side and place, and at which end made the initial value",
-    "the asked use isn't within the key's present use; look at the slot's use, which a move can narrow and never widen",
+    "the asked use isn't within the key's present use, or it is 0 and the key is for both; look at the slot's use, which a move can narrow and never widen, and ask 3 where a key for both is to stay one",
     "a line of the record is wrong or cut short; look at that line",
     "the table isn't 32 slots, or one of them is bad; look for a field out of range, or an empty slot with a byte that isn't zero",
     "the record is longer than the buffer; look at the buffer's length: 111 bytes hold any record",

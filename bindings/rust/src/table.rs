@@ -91,8 +91,9 @@ impl Table {
         ffi::load(&mut self.slots.0, number, &fields.into(), key)
     }
 
-    /// Carries a slot to an empty one and empties the first. Asked [`KEEP`](crate::KEEP) keeps the use;
-    /// any other use must lie within the present one. A slot moved to itself is refused with 9.
+    /// Carries a slot to an empty one and empties the first. The asked use must lie within
+    /// the present one; asked [`KEEP`](crate::KEEP) keeps it, unless the key is for both. A slot moved to itself is
+    /// refused with 9.
     ///
     /// Refused: 7 for either number, 8, 9, 10, 14.
     pub fn move_slot(

@@ -329,8 +329,10 @@ fn numbers_are_codes_or_the_cards_refusal() {
 #[test]
 fn a_typed_number_stands_in_a_codes_place() {
     let mut card = table(Algorithm::Tea5, Use::Both);
-    card.move_slot(3, 4, 0).unwrap();
+    card.move_slot(3, 4, 3).unwrap();
     card.move_slot(4, 3, 1).unwrap();
+    card.move_slot(3, 4, 0).unwrap();
+    card.move_slot(4, 3, 0).unwrap();
     assert_eq!(card.read(3).unwrap().usage, Use::Send);
     assert_eq!(card.traffic(1, 3, &IV, &mut [0], WHOLE_BYTE), Ok(1));
     assert_eq!(bench(5, &KEY, &IV, &mut [0], 8), Ok(1));

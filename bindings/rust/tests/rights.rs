@@ -2,7 +2,7 @@
 
 mod common;
 
-use card::{Algorithm, Direction, Fields, Refusal, Use, KEEP};
+use card::{Algorithm, Code, Direction, Fields, Refusal, Use, KEEP};
 use common::{fields, table, IV, WHOLE_BYTE};
 
 /// A good initial value for a receive by side 0.
@@ -60,6 +60,38 @@ fn a_move_narrows_and_never_widens() {
             }
         }
     }
+}
+
+/// Asked 0 by name and by number, of each use: what the second program answers, and what is then there.
+#[test]
+fn keep_is_for_a_key_of_one_direction() {
+    for (present, answer) in [(Use::Send, 0), (Use::Receive, 0), (Use::Both, 14)] {
+        for asked in [KEEP, Code::from(0)] {
+            let mut card = table(Algorithm::Tea7, present);
+            let mut second = common::second_table(Algorithm::Tea7, present);
+            assert_eq!(second::slots::move_slot(&mut second, 3, 4, 0), answer);
+            let refused = card.move_slot(3, 4, asked).err();
+            assert_eq!(
+                refused.map_or(0, |refusal| u64::from(refusal.number())),
+                answer
+            );
+            let there = if answer == 0 { 4 } else { 3 };
+            assert_eq!(card.read(there), Ok(fields(Algorithm::Tea7, present)));
+        }
+    }
+}
+
+/// The refusal says what to ask instead, and that is accepted.
+#[test]
+fn the_refusal_of_keep_names_what_to_ask() {
+    let mut card = table(Algorithm::Tea5, Use::Both);
+    let sentence = card.move_slot(3, 4, KEEP).unwrap_err().to_string();
+    assert!(
+        sentence.ends_with("ask 3 where a key for both is to stay one"),
+        "{sentence}"
+    );
+    card.move_slot(3, 4, 3).unwrap();
+    assert_eq!(card.read(4), Ok(fields(Algorithm::Tea5, Use::Both)));
 }
 
 #[test]

@@ -3,6 +3,7 @@ pub mod Tables
 pub mod Passed
 pub mod Rights
 pub mod Left
+pub mod AskedUse
 pub mod Rows
 pub mod Alike
 pub mod AsSeen

@@ -5,13 +5,13 @@ use mathlib.Core.Path.{_≡_, refl, _∙_}
 use Prim.Native.Nat.{ℕ}
 use borrow.Author.Tests.{not-false}
 use lib.Dec.{lit<}
-use Rattle.laws.proofs.Cases.{unpicked, unpicked-own}
+use Rattle.laws.proofs.Cases.{and-left, unpicked, unpicked-own}
 use Rattle.refusals.specs.Numbers.{done}
 use Rattle.fields.specs.declared.Asked.{Asked}
 use Rattle.fields.specs.Fields.{isSlotNumber, isAlgorithm, rightsRefusal, allInRange}
 use Rattle.slots.specs.declared.Slot.{Slot}
 use Rattle.slots.specs.Slots.{isEmpty, isFilled, hasBad, slotAt}
-use Rattle.slots.specs.Rights.{isAskedUse, staysWithin}
+use Rattle.slots.specs.Rights.{isAskedUse, staysWithin, mayMove}
 use Rattle.slots.specs.Calls.{loadRefusalOf, moveRefusalOf, slotRefusalOf, clearRefusalOf, loadRefusal, moveRefusal, clearRefusal}
 use Rattle.slots.proofs.Tables.{in-range}
 
@@ -43,6 +43,7 @@ pub record MovePassedOf (bad : Bool) (slot target : Slot) (from to asked : ℕ) 
   pub there : isEmpty slot ≡ false
   pub free : isFilled target ≡ false
   pub code : isAskedUse asked ≡ true
+  pub allowed : mayMove (slot .fields .usage) asked ≡ true
   pub narrow : staysWithin (slot .fields .usage) asked ≡ true
 
 both-good : (a b : Bool) → not a || not b ≡ false → (a ≡ true) × (b ≡ true)
@@ -58,7 +59,8 @@ move-passed-of bad slot target from to asked e =
     let there = unpicked (isEmpty slot) _ _ (lit< tt) (numbered .1) in
     let free = unpicked (isFilled target) _ _ (lit< tt) (there .1) in
     let code = unpicked (not (isAskedUse asked)) _ _ (lit< tt) (free .1) in
-    let narrow = unpicked (not (staysWithin (slot .fields .usage) asked)) _ _ (lit< tt) (code .1) in
+    let may = unpicked (not (mayMove (slot .fields .usage) asked)) _ _ (lit< tt) (code .1) in
+    let allowed = not-false (mayMove (slot .fields .usage) asked) (may .0) in
     let numbers = both-good (isSlotNumber from) (isSlotNumber to) (numbered .0) in
     record {
       good = good .0;
@@ -67,7 +69,8 @@ move-passed-of bad slot target from to asked e =
       there = there .0;
       free = free .0;
       code = not-false (isAskedUse asked) (code .0);
-      narrow = not-false (staysWithin (slot .fields .usage) asked) (narrow .0);
+      allowed = allowed;
+      narrow = and-left (staysWithin (slot .fields .usage) asked) _ allowed;
     }
 
 pub record SlotPassedOf (slot : Slot) (number : ℕ) : Type 0 where

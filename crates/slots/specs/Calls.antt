@@ -14,7 +14,7 @@ use Rattle.slots.specs.declared.Slot.{Slot}
 use Rattle.slots.specs.declared.Changed.{Changed}
 use Rattle.slots.specs.declared.Shown.{Shown}
 use Rattle.slots.specs.Slots.{noFields, isEmpty, isFilled, hasBad, empty, slotAt, withSlot}
-use Rattle.slots.specs.Rights.{isAskedUse, movedUse, staysWithin}
+use Rattle.slots.specs.Rights.{isAskedUse, movedUse, mayMove}
 
 -- 16, 7, 1, 10, 11, 9
 unfoldable pub loadRefusalOf : Bool → Slot → ℕ → Asked → ℕ
@@ -34,7 +34,7 @@ moveRefusalOf bad slot target from to asked =
     (refuse (isEmpty slot) slotEmpty
     (refuse (isFilled target) targetFilled
     (refuse (not (isAskedUse asked)) codeUnknown
-    (refuse (not (staysWithin (slot .fields .usage) asked)) useNotWithin
+    (refuse (not (mayMove (slot .fields .usage) asked)) useNotWithin
     done)))))
 
 -- 7, 8: what every call on a filled slot asks of its number

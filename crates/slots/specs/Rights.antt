@@ -1,5 +1,5 @@
 -- What a use allows, and what a move may make of it (document 01, "Slots and rights"). Assumes nothing: these are definitions.
-use mathlib.Core.Bool.{Bool, _&&_, _||_}
+use mathlib.Core.Bool.{Bool, _&&_, _||_, not}
 use Prim.Native.Nat.{ℕ}
 use lib.Dec.{eqb, leb}
 use Rattle.laws.specs.Choice.{pick}
@@ -28,3 +28,7 @@ movedUse present asked = pick (eqb asked 0) present asked
 -- the moved use lies within the present one
 abbrev pub staysWithin : ℕ → ℕ → Bool
 staysWithin present asked = within (movedUse present asked) present
+
+-- asked 0 keeps send or receive alone: both has to be asked for
+abbrev pub mayMove : ℕ → ℕ → Bool
+mayMove present asked = staysWithin present asked && not (eqb asked 0 && eqb present 3)

@@ -4,7 +4,7 @@ ghost use mathlib.Core.Bool.{true};
 ghost use Prim.Native.Nat.{_-_, _<_};
 ghost use Rattle.fields.specs.Fields.{isSlotNumber, askedOf};
 ghost use Rattle.slots.specs.Slots.{noFields, isNoFields, allZero, isEmpty, isFilled, isBad, hasBad, empty, emptyTable, slotAt, withSlot};
-ghost use Rattle.slots.specs.Rights.{isDirection, includes, within, isAskedUse, movedUse, staysWithin};
+ghost use Rattle.slots.specs.Rights.{isDirection, includes, within, isAskedUse, movedUse, staysWithin, mayMove};
 ghost use Rattle.slots.specs.Calls.{loadRefusalOf, moveRefusalOf, slotRefusalOf, clearRefusalOf, loaded, movedSlot, moved, cleared, shownOf, shown};
 ghost use Rattle.slots.specs.Seen.{slotAs, loadPut, movePut, emptiedBy, clearPut};
 use fields::Asked;
@@ -204,6 +204,13 @@ fn stays_within(present: u8, asked: u64) -> bool
     lies_within(moved_use(present, asked), present)
 }
 
+// Asked 0 keeps send or receive alone: both has to be asked for.
+fn may_move(present: u8, asked: u64) -> bool
+    ensures { λ r. ⌜ r ≡ mayMove present asked ⌝ }
+{
+    stays_within(present, asked) && !(asked == 0 && present == 3)
+}
+
 // 0 asks for no other use.
 fn is_asked_use(asked: u64) -> bool
     ensures { λ r. ⌜ r ≡ isAskedUse asked ⌝ }
@@ -259,7 +266,7 @@ fn move_refusal(bad: bool, slot: Slot, target: Slot, from: u64, to: u64, asked: 
                             !is_asked_use(asked),
                             refusals::CODE,
                             refuse(
-                                !stays_within(f.usage, asked),
+                                !may_move(f.usage, asked),
                                 refusals::USE_WIDER,
                                 refusals::DONE,
                             ),

@@ -9,7 +9,7 @@ extern crate oracle;
 use std::slice::{from_raw_parts, from_raw_parts_mut};
 use std::sync::Mutex;
 
-use card::{Asked, Refusal, Slot, Span, Table, IV_BYTES, KEEP, KEY_BYTES, SLOTS};
+use card::{Asked, Refusal, Slot, Span, Table, IV_BYTES, KEY_BYTES, SLOTS};
 
 static TABLE: Mutex<Option<Table>> = Mutex::new(None);
 
@@ -61,7 +61,7 @@ pub unsafe extern "C" fn bound_load(
 
 #[no_mangle]
 pub extern "C" fn bound_move(from: u64, to: u64) -> u8 {
-    on_table(|table| table.move_slot(from, to, KEEP))
+    on_table(|table| table.move_slot(from, to, BOTH))
 }
 
 #[no_mangle]

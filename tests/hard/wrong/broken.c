@@ -52,7 +52,8 @@ enum {
     RECORD_READ_LAX,
     RECORD_WRITE_LAX,
     PLAN_SKIPS_ONE_LESS,
-    PLAIN_SKIPS_BLOCKS
+    PLAIN_SKIPS_BLOCKS,
+    KEEP_KEEPS_BOTH
 };
 
 #define IS(fault) (BREAK == (fault))
@@ -71,7 +72,9 @@ uint8_t WRAP(load)(struct card_slot *table, size_t slots, uint64_t number, uint1
 
 uint8_t WRAP(move)(struct card_slot *table, size_t slots, uint64_t from, uint64_t to, uint64_t asked)
 {
-    uint8_t answer = REAL(move)(table, slots, from, to, asked);
+    int of_both = slots == CARD_SLOTS && from - 1 < CARD_SLOTS && table[from - 1].usage == CARD_FOR_BOTH;
+    uint64_t meant = IS(KEEP_KEEPS_BOTH) && of_both && asked == CARD_KEEP ? CARD_FOR_BOTH : asked;
+    uint8_t answer = REAL(move)(table, slots, from, to, meant);
 
     if (IS(MOVE_WIDENS) && answer == CARD_DONE)
         table[to - 1].usage = CARD_FOR_BOTH;

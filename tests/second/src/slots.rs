@@ -11,7 +11,7 @@ pub const SEND: u64 = 1;
 pub const RECEIVE: u64 = 2;
 pub const BOTH: u64 = 3;
 
-/// Asked on a move, it keeps the use.
+/// Asked on a move, it keeps the use, if that is sending or receiving alone.
 pub const KEEP_USE: u64 = 0;
 
 /// The highest number of a bit of the initial value.
@@ -187,9 +187,10 @@ fn checked_move(
     Ok((from, to, moved_use(fields.usage, asked)?))
 }
 
-/// The use in the second slot; refusals 10, 14.
+/// The use in the second slot; refusals 10, 14. Both must be asked for.
 fn moved_use(present: u64, asked: u64) -> Result<u64, Refusal> {
     match asked {
+        KEEP_USE if present == BOTH => Err(USE_NOT_WITHIN),
         KEEP_USE => Ok(present),
         SEND..=BOTH if within(asked, present) => Ok(asked),
         SEND..=BOTH => Err(USE_NOT_WITHIN),

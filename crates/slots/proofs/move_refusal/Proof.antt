@@ -24,8 +24,8 @@ returns c =
     let three = four .before in
     let two = three .before in
     let one = two .before in
-    let within = one .before in
-    let code = within .before in
+    let may = one .before in
+    let code = may .before in
     let filled = code .before in
     let empty = filled .before in
     let to = empty .before in
@@ -33,7 +33,7 @@ returns c =
     let a = from .before .before .args in
     rw (c .refuse7 .ensures, six .refuse6 .ensures, five .refuse5 .ensures, to .is-slot-number2 .ensures, from .is-slot-number .ensures)
     (one-rung (a .bad) (not (isSlotNumber (a .from))) (not (isSlotNumber (a .to))) (four .refuse4 .result)
-    ∙ rw (four .refuse4 .ensures, three .refuse3 .ensures, two .refuse2 .ensures, one .refuse .ensures, within .stays-within .ensures, code .is-asked-use .ensures, filled .is-filled .ensures, empty .is-empty .ensures))
+    ∙ rw (four .refuse4 .ensures, three .refuse3 .ensures, two .refuse2 .ensures, one .refuse .ensures, may .may-move .ensures, code .is-asked-use .ensures, filled .is-filled .ensures, empty .is-empty .ensures))
 
 pub move-refusal-spec : {M : Type 1} → statement M
 move-refusal-spec =

@@ -5,7 +5,8 @@ use crate::card::{traffic, Span};
 use crate::refusals::*;
 use crate::rijndael::Key;
 use crate::slots::{
-    clear, empty_table, load, move_slot, read, Fields, ReadAnswer, Slot, BOTH, RECEIVE, SEND, SLOTS,
+    clear, empty_table, load, move_slot, read, Fields, ReadAnswer, Slot, BOTH, KEEP_USE, RECEIVE,
+    SEND, SLOTS,
 };
 
 pub const CHECKS: &[Check] = &[
@@ -13,6 +14,7 @@ pub const CHECKS: &[Check] = &[
     ("load ranges", load_ranges),
     ("move order", move_order),
     ("move uses", move_uses),
+    ("use 3 must be asked for", both_unasked),
     ("move carries", move_carries),
     ("clear and read", clear_and_read),
     ("bad slots", bad_slots),
@@ -168,13 +170,29 @@ fn move_order() -> Finding {
     Ok(())
 }
 
+/// Asked 0 on a key for both is refused where the use was tested all along: last.
+fn both_unasked() -> Finding {
+    let good = MoveCall {
+        from: 1,
+        asked: BOTH,
+        ..MoveCall::good()
+    };
+    let spoilers: [Spoiler<MoveCall>; 4] = [
+        (TABLE_BAD, |call| call.table.truncate(31)),
+        (SLOT_NUMBER_UNKNOWN, |call| call.to = 33),
+        (TARGET_FILLED, |call| call.to = 1),
+        (USE_NOT_WITHIN, |call| call.asked = KEEP_USE),
+    ];
+    same_order(&good, &spoilers, MoveCall::outcome)
+}
+
 /// Each present use with each asked one, and the use that comes of it.
 fn move_uses() -> Finding {
     let refused = Err(USE_NOT_WITHIN);
     let rows = [
         (SEND, [Ok(SEND), Ok(SEND), refused, refused]),
         (RECEIVE, [Ok(RECEIVE), refused, Ok(RECEIVE), refused]),
-        (BOTH, [Ok(BOTH), Ok(SEND), Ok(RECEIVE), Ok(BOTH)]),
+        (BOTH, [refused, Ok(SEND), Ok(RECEIVE), Ok(BOTH)]),
     ];
     for (present, by_asked) in rows {
         for (asked, wanted) in by_asked.into_iter().enumerate() {
