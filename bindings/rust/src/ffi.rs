@@ -10,9 +10,7 @@
 use std::ptr;
 use std::sync::atomic::{compiler_fence, Ordering};
 
-use crate::{
-    wipe, Asked, Fields, Key, Pdu, Record, Refusal, Slot, Span, KEY_BYTES, LISTING_BYTES,
-};
+use crate::{wipe, Asked, Fields, Key, Pdu, Record, Refusal, Slot, Span, KEY_BYTES, LISTING_BYTES};
 
 extern "C" {
     fn card_load(
