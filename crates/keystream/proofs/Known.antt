@@ -21,7 +21,7 @@ use Rattle.rijndael.specs.Cipher.{toState, toBlock, rounds, encrypted, cipher}
 use Rattle.tea.specs.declared.mode.Mode.{Mode}
 use Rattle.algorithms.specs.Combining.{fTea5}
 use Rattle.algorithms.specs.Algorithm.{combining, digitOf}
-use Rattle.tea.specs.Mixing.{mixedByte as mixingByte, mixedValue}
+use Rattle.tea.specs.Mixing.{expandedByte, mixedValue}
 use Rattle.tea.specs.Mode.{modeKey, modeValue, modeBy, modeOf}
 use Rattle.tea.specs.Keystream.{plaintext, blockOf}
 use Rattle.span.specs.Span.{streamBit}
@@ -88,7 +88,7 @@ look-is x =
     (λ e. ap sBox (sym (zero-add x)) ∙ sym (getD-tabulate sBox 0 256 x 0 (ltb-true x 256 e))) (λ e. refl)
 
 computed : bits (look (tabulate sBox 0 256)) ≡ 1 ∷ 0 ∷ []
-unfolding bits bit under turns listed look bitAt bitOf toBlock toState shiftRow mixColumn mixedByte addRoundKey grid tabulate rotByte roundConstant packed plaintext modeOf modeBy modeKey modeValue mixedValue mixingByte sequence window combining digitOf fTea5 sBox affine inverse times
+unfolding bits bit under turns listed look bitAt bitOf toBlock toState shiftRow mixColumn mixedByte addRoundKey grid tabulate rotByte roundConstant packed plaintext modeOf modeBy modeKey modeValue mixedValue expandedByte sequence window combining digitOf fTea5 sBox affine inverse times
 computed = refl
 
 -- TEA5, keystream bit 1 under a key of 24 bytes 0 and under one of 24 bytes 1, with the initial value zero

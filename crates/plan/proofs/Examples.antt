@@ -1,10 +1,10 @@
 -- The examples of document 01 that its table of P values does not have. Assumes nothing.
 use mathlib.Core.Path.{_≡_, refl}
 use Prim.Native.Nat.{ℕ}
-use Rattle.plan.specs.Plan.{noPiece, accepted, refused, planRefusal, plannedPieces, planOf}
+use Rattle.plan.specs.Plan.{noPiece, withPieces, refused, planRefusal, plannedPieces, planOf}
 
 -- kind 1, state 1: a PDU of its head alone has no piece, whatever the inputs that state 1 doesn't use
-pub head-alone : (a s : ℕ) → planOf 1 1 0 10 a s ≡ accepted noPiece noPiece
+pub head-alone : (a s : ℕ) → planOf 1 1 0 10 a s ≡ withPieces noPiece noPiece
 unfolding planOf planRefusal plannedPieces
 head-alone a s = refl
 

@@ -12,7 +12,7 @@ use Rattle.laws.proofs.Cases.{lt-or-le, eq-or-ne, neither, and-left, and-right}
 use Rattle.refusals.specs.Numbers.{done, pduCodeUnknown, pduPartsDontFit, refuse}
 use Rattle.plan.specs.declared.Plan.{Plan}
 use Rattle.plan.specs.declared.Piece.{Piece}
-use Rattle.plan.specs.Plan.{syncOnSchS, longestPdu, addressBits, noPiece, restFrom, addressFrom, byCase, clearHead, secondSkip, keystreamBits, pastKeystream, codesUnknown, partsDontFit, planRefusal, accepted, refused, plannedPieces, planOf}
+use Rattle.plan.specs.Plan.{syncOnSchS, longestPdu, addressBits, noPiece, restFrom, addressFrom, byCase, clearHead, secondSkip, keystreamBits, pastKeystream, codesUnknown, partsDontFit, planRefusal, withPieces, refused, plannedPieces, planOf}
 
 -- the old reading: n keystream bits are passed over, and the keystream's end is not looked at
 abbrev pub oldSkip : ℕ → ℕ → ℕ
@@ -29,10 +29,10 @@ oldDontFit kind state flag l a s =
 abbrev pub oldPieces : ℕ → ℕ → ℕ → ℕ → ℕ → ℕ → Plan
 oldPieces kind state flag l a s =
     byCase kind state
-    (accepted noPiece noPiece)
-    (accepted (restFrom (clearHead kind flag) l 0) noPiece)
-    (accepted (restFrom s l 0) noPiece)
-    (accepted (addressFrom a) (restFrom s l (oldSkip a s)))
+    (withPieces noPiece noPiece)
+    (withPieces (restFrom (clearHead kind flag) l 0) noPiece)
+    (withPieces (restFrom s l 0) noPiece)
+    (withPieces (addressFrom a) (restFrom s l (oldSkip a s)))
 
 -- an answer by the tests of 18 and 19 and by the pieces, as `planOf` gives it
 unfoldable pub answer : Bool → Bool → Plan → Plan
@@ -72,15 +72,15 @@ not-third kind (suc (suc zero)) x y z w w′ (inr h) = refl
 not-third kind (suc (suc (suc state))) x y z w w′ (inr h) = absurd (omega arith)
 
 -- an answer that is not a refusal passed both tests
-answered : (codes parts : Bool) (p q : Piece) → answer codes parts (accepted p q) .refusal ≡ done → (codes ≡ false) × (parts ≡ false)
+answered : (codes parts : Bool) (p q : Piece) → answer codes parts (withPieces p q) .refusal ≡ done → (codes ≡ false) × (parts ≡ false)
 unfolding answer
 answered true parts p q h = absurd (eqb-false 18 0 refl h)
 answered false true p q h = absurd (eqb-false 19 0 refl h)
 answered false false p q h = (refl, refl)
 
 -- one more test changes no refusal
-still : (codes parts more : Bool) (p q q′ : Piece) → (answer codes parts (accepted p q) .refusal ≡ done → ⊥)
-    → answer codes (parts || more) (accepted p q′) ≡ answer codes parts (accepted p q)
+still : (codes parts more : Bool) (p q q′ : Piece) → (answer codes parts (withPieces p q) .refusal ≡ done → ⊥)
+    → answer codes (parts || more) (withPieces p q′) ≡ answer codes parts (withPieces p q)
 unfolding answer
 still true parts more p q q′ h = refl
 still false true more p q q′ h = refl
@@ -125,7 +125,7 @@ module _ (kind flag l a s : ℕ) (n : kind ≡ syncOnSchS → ⊥) where
   parts = ltb s (a + addressBits) || ltb l s
 
   abbrev pieces : ℕ → Plan
-  pieces skip = accepted (addressFrom a) (restFrom s l skip)
+  pieces skip = withPieces (addressFrom a) (restFrom s l skip)
 
   old-third : oldPlan kind 3 flag l a s ≡ answer codes parts (pieces (oldSkip a s))
   old-third = rw (ne-eqb kind syncOnSchS n)
@@ -226,7 +226,7 @@ module _ (kind state flag l a s : ℕ) where
 -- every other plan of state 3 that was accepted is accepted, and its second piece starts one keystream bit later
 pub one-bit-more : (kind flag l a s : ℕ) → (kind ≡ syncOnSchS → ⊥)
     → oldPlan kind 3 flag l a s .refusal ≡ done → (PastTheLast kind 3 flag l a s → ⊥)
-    → (oldPlan kind 3 flag l a s ≡ accepted (addressFrom a) (restFrom s l (oldSkip a s)))
-    × (planOf kind 3 flag l a s ≡ accepted (addressFrom a) (restFrom s l (oldSkip a s + 1)))
+    → (oldPlan kind 3 flag l a s ≡ withPieces (addressFrom a) (restFrom s l (oldSkip a s)))
+    × (planOf kind 3 flag l a s ≡ withPieces (addressFrom a) (restFrom s l (oldSkip a s + 1)))
 one-bit-more kind flag l a s n h m =
     by-test (pastKeystream l a s) (λ e. absurd (m (past kind flag l a s n h e))) (within kind flag l a s n h)

@@ -81,8 +81,8 @@ planRefusal kind state flag l a s =
     (refuse (partsDontFit kind state flag l a s) pduPartsDontFit
     done)
 
-abbrev pub accepted : Piece → Piece → Plan
-accepted first second = record { refusal = done; first = first; second = second }
+abbrev pub withPieces : Piece → Piece → Plan
+withPieces first second = record { refusal = done; first = first; second = second }
 
 abbrev pub refused : ℕ → Plan
 refused number = record { refusal = number; first = noPiece; second = noPiece }
@@ -91,10 +91,10 @@ refused number = record { refusal = number; first = noPiece; second = noPiece }
 unfoldable pub plannedPieces : ℕ → ℕ → ℕ → ℕ → ℕ → ℕ → Plan
 plannedPieces kind state flag l a s =
     byCase kind state
-    (accepted noPiece noPiece)
-    (accepted (restFrom (clearHead kind flag) l 0) noPiece)
-    (accepted (restFrom s l 0) noPiece)
-    (accepted (addressFrom a) (restFrom s l (secondSkip a s)))
+    (withPieces noPiece noPiece)
+    (withPieces (restFrom (clearHead kind flag) l 0) noPiece)
+    (withPieces (restFrom s l 0) noPiece)
+    (withPieces (addressFrom a) (restFrom s l (secondSkip a s)))
 
 -- the plan: the pieces, or the refusal with zeros for every other number
 unfoldable pub planOf : ℕ → ℕ → ℕ → ℕ → ℕ → ℕ → Plan

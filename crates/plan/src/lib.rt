@@ -3,7 +3,7 @@ ghost use mathlib.Core.Path.{_≡_};
 ghost use Prim.Native.Nat.{_+_, _≤_};
 ghost use lib.Dec.{ltb};
 ghost use Rattle.refusals.specs.Numbers.{done};
-ghost use Rattle.plan.specs.Plan.{addressBits, restFrom, addressFrom, clearHead, secondSkip, longestPdu, pastKeystream, codesUnknown, partsDontFit, planRefusal, accepted, refused, plannedPieces, planOf};
+ghost use Rattle.plan.specs.Plan.{addressBits, restFrom, addressFrom, clearHead, secondSkip, longestPdu, pastKeystream, codesUnknown, partsDontFit, planRefusal, withPieces, refused, plannedPieces, planOf};
 use refusals::DONE;
 use refusals::PDU_CODE;
 use refusals::PDU_PARTS;
@@ -63,8 +63,8 @@ fn address_from(address: usize) -> Piece
     }
 }
 
-fn accepted(first: Piece, second: Piece) -> Plan
-    ensures { λ r. ⌜ r ≡ accepted first second ⌝ }
+fn with_pieces(first: Piece, second: Piece) -> Plan
+    ensures { λ r. ⌜ r ≡ withPieces first second ⌝ }
 {
     Plan {
         refusal: DONE,
@@ -176,16 +176,16 @@ fn planned_pieces(
     ensures { λ r. ⌜ r ≡ plannedPieces kind state flag length address sdu ⌝ }
 {
     if (kind == SYNC_ON_SCH_S) | (state == 0) {
-        return accepted(NO_PIECE, NO_PIECE);
+        return with_pieces(NO_PIECE, NO_PIECE);
     }
     if state == 1 {
-        return accepted(rest_from(clear_head(kind, flag), length, 0), NO_PIECE);
+        return with_pieces(rest_from(clear_head(kind, flag), length, 0), NO_PIECE);
     }
     if state == 2 {
-        return accepted(rest_from(sdu, length, 0), NO_PIECE);
+        return with_pieces(rest_from(sdu, length, 0), NO_PIECE);
     }
     let skip = second_skip(address, sdu);
-    accepted(address_from(address), rest_from(sdu, length, skip))
+    with_pieces(address_from(address), rest_from(sdu, length, skip))
 }
 
 // The plan of a PDU. kind is 1 for DMAC-DATA, 2 for DMAC-SYNC on SCH/H, 3 for DMAC-SYNC on SCH/S; state is the air interface encryption

@@ -14,7 +14,7 @@ use Rattle.laws.proofs.Tests.{all, holds}
 use Rattle.field.specs.Field.{times}
 use Rattle.algorithms.specs.Combining.{fTea7}
 use Rattle.algorithms.specs.Algorithm.{combining}
-use Rattle.tea.specs.Mixing.{mixedByte, mixedValue}
+use Rattle.tea.specs.Mixing.{expandedByte, mixedValue}
 use Rattle.tea.specs.Mode.{modeValue, modeBy, modeOf}
 use Rattle.repeats.specs.Repeats.{Bytes, InitialValue}
 
@@ -29,7 +29,7 @@ abbrev pub other : List ℕ
 other = 0x94 ∷ 0xb5 ∷ 0x03 ∷ 0xeb ∷ 0x6d ∷ 0x9f ∷ 0xb8 ∷ 0x60 ∷ 0xff ∷ 0x57 ∷ []
 
 pub same-value : modeOf 7 key one .value ≡ modeOf 7 key other .value
-unfolding modeOf modeBy modeValue combining fTea7 mixedValue mixedByte sequence window tabulate times
+unfolding modeOf modeBy modeValue combining fTea7 mixedValue expandedByte sequence window tabulate times
 same-value = refl
 
 pub not-same : one ≡ other → ⊥

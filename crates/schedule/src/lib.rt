@@ -24,7 +24,7 @@ fn round_constant(n: usize) -> u8
 }
 
 // A word turned by a byte, each byte through the S-box.
-fn turned(x: u32, table: &[u8; 256]) -> u32
+fn substituted_word(x: u32, table: &[u8; 256]) -> u32
     requires { ⌜ now table ≡ sBoxes ⌝ }
     ensures { λ r. ⌜ r ≡ subByte (rotByte x) ⌝ }
 {
@@ -58,7 +58,7 @@ fn six_words(w: &mut [u32], k: usize, last: u32, table: &[u8; 256]) -> u32
     let q = p ^ w[i - 3];
     let r = q ^ w[i - 2];
     let s = r ^ last;
-    let a = x ^ turned(last, table);
+    let a = x ^ substituted_word(last, table);
     let f = s ^ a;
     w[i] = a;
     w[i + 1] = y ^ a;

@@ -11,9 +11,9 @@ abbrev pub mixed : ℕ → ℕ → ℕ → ℕ
 mixed ten nine one = bitXor (bitXor ten nine) (times 0xd7 one)
 
 -- b[i]: the first ten are the initial value's
-unfoldable pub mixedByte : List ℕ → ℕ → ℕ
-mixedByte iv = sequence (λ i w. mixed (getD w 0 0) (getD w 1 0) (getD w 9 0)) iv
+unfoldable pub expandedByte : List ℕ → ℕ → ℕ
+expandedByte iv = sequence (λ i w. mixed (getD w 0 0) (getD w 1 0) (getD w 9 0)) iv
 
 -- IVX: b[20] to b[43]
 unfoldable pub mixedValue : List ℕ → List ℕ
-mixedValue iv = tabulate (λ k. mixedByte iv (20 + k)) 0 24
+mixedValue iv = tabulate (λ k. expandedByte iv (20 + k)) 0 24

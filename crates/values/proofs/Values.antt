@@ -11,7 +11,7 @@ use Rattle.laws.proofs.Tests.{pass-left, pass-right}
 use Rattle.field.specs.Field.{times, inverse, affine, sBox}
 use Rattle.algorithms.specs.Combining.{fTea6}
 use Rattle.algorithms.specs.Algorithm.{combining, digitOf, nameOf}
-use Rattle.tea.specs.Mixing.{mixedByte, mixedValue}
+use Rattle.tea.specs.Mixing.{expandedByte, mixedValue}
 use Rattle.span.specs.Span.{blocksUsed}
 use Rattle.slots.specs.Slots.{allZero, isEmpty, isFilled, isBad, hasBad}
 use Rattle.slots.specs.Calls.{moveRefusalOf}
@@ -50,5 +50,5 @@ at-row (r ∷ rows) t (suc k) h = at-row rows (pass-right (same (r .given) (r .s
 
 -- every row of the table holds
 pub p-values : (k : ℕ) → k < length pTable → getD pTable k (row [] []) .given ≡ getD pTable k (row [] []) .said
-unfolding pTable allSame same times inverse affine sBox combining fTea6 mixedByte mixedValue sequence window tabulate blocksUsed moveRefusalOf hasBad isBad isFilled isEmpty allZero planOf planRefusal plannedPieces digitsWithin digits nameOf digitOf useWord hexDigit hexText recordText readAt _>>=_ either literal mayBegin mayFollow afterWithin after decimal oneOf useForm algorithmForm isHex hexValue byte bytes keyForm recordForm recordRead writeRefusal recordWritten bufferWritten
+unfolding pTable allSame same times inverse affine sBox combining fTea6 expandedByte mixedValue sequence window tabulate blocksUsed moveRefusalOf hasBad isBad isFilled isEmpty allZero planOf planRefusal plannedPieces digitsWithin digits nameOf digitOf useWord hexDigit hexText recordText readAt _>>=_ either literal mayBegin mayFollow afterWithin after decimal oneOf useForm algorithmForm isHex hexValue byte bytes keyForm recordForm recordRead writeRefusal recordWritten bufferWritten
 p-values = at-row pTable tt

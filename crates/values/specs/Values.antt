@@ -5,7 +5,7 @@ use Prim.Native.String.{String}
 use lib.ListN.{getD, replicate}
 use Rattle.field.specs.Field.{times, sBox}
 use Rattle.algorithms.specs.Algorithm.{combining}
-use Rattle.tea.specs.Mixing.{mixedByte, mixedValue}
+use Rattle.tea.specs.Mixing.{expandedByte, mixedValue}
 use Rattle.span.specs.Span.{blocksUsed}
 use Rattle.fields.specs.Fields.{askedOf}
 use Rattle.slots.specs.declared.Slot.{Slot}
@@ -68,7 +68,7 @@ pTable =
     ∷ row (sBox 0x00 ∷ sBox 0x01 ∷ sBox 0x53 ∷ []) (0x63 ∷ 0x7c ∷ 0xed ∷ [])
     ∷ row (getD (combining 6) 0x88 0 ∷ []) (0xcc ∷ [])
     ∷ row (mixedValue zeros) (replicate 24 0)
-    ∷ row (mixedByte lastOne 10 ∷ mixedByte lastOne 11 ∷ mixedByte lastOne 12 ∷ []) (0xd7 ∷ 0x3f ∷ 0x8b ∷ [])
+    ∷ row (expandedByte lastOne 10 ∷ expandedByte lastOne 11 ∷ expandedByte lastOne 12 ∷ []) (0xd7 ∷ 0x3f ∷ 0x8b ∷ [])
     ∷ row (blocksUsed 0 256 ∷ blocksUsed 0 257 ∷ blocksUsed 0 8288 ∷ blocksUsed 255 2 ∷ []) (1 ∷ 2 ∷ 33 ∷ 2 ∷ [])
     ∷ row (moveRefusal (one 1) 1 2 3 ∷ moveRefusal (one 3) 1 2 1 ∷ moveRefusal (one 1) 1 2 2 ∷ []) (14 ∷ 0 ∷ 14 ∷ [])
     ∷ row (readNumbers (recordRead sample)) (0 ∷ 0 ∷ 107 ∷ 3 ∷ 17 ∷ 6 ∷ 1 ∷ 0 ∷ 28 ∷ replicate 23 0 ++ (1 ∷ []))

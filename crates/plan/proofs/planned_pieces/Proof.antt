@@ -12,7 +12,7 @@ use Rattle.plan.proofs.planned_pieces.Tie as tie
 
 returns : tie.Need-returns
 unfolding plannedPieces
-returns c = simp (c .before .if1 .taken, c .accepted .ensures)
+returns c = simp (c .before .if1 .taken, c .with-pieces .ensures)
 
 returns-2 : tie.Need-returns-2
 unfolding plannedPieces
@@ -20,7 +20,7 @@ returns-2 c =
     simp (
       c .before .before .before .before .if1 .left,
       eq-eqb _ _ (c .before .before .before .if2 .taken),
-      c .accepted2 .ensures,
+      c .with-pieces2 .ensures,
       c .before .rest-from .ensures,
       c .before .before .clear-head .ensures,
     )
@@ -32,7 +32,7 @@ returns-3 c =
       c .before .before .before .before .if1 .left,
       ne-eqb _ _ (c .before .before .before .if2 .left),
       eq-eqb _ _ (c .before .before .if3 .taken),
-      c .accepted3 .ensures,
+      c .with-pieces3 .ensures,
       c .before .rest-from2 .ensures,
     )
 
@@ -52,7 +52,7 @@ returns-4 c =
       c .before .before .before .before .before .before .if1 .left,
       ne-eqb _ _ (c .before .before .before .before .before .if2 .left),
       ne-eqb _ _ (c .before .before .before .before .if3 .left),
-      c .accepted4 .ensures,
+      c .with-pieces4 .ensures,
       c .before .rest-from3 .ensures,
       c .before .before .address-from .ensures,
       c .before .before .before .second-skip .ensures,

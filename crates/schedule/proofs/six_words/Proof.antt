@@ -40,14 +40,14 @@ returns c =
     let p = bitXor y (getD w (6 * a .k - 4) 0) in
     let q = bitXor p (getD w (6 * a .k - 3) 0) in
     let r = bitXor q (getD w (6 * a .k - 2) 0) in
-    let v = bitXor x (c .turned .result) in
+    let v = bitXor x (c .substituted-word .result) in
     let five = set (set (set (set (set w (6 * a .k) v) (6 * a .k + 1) (bitXor y v)) (6 * a .k + 2) (bitXor p v)) (6 * a .k + 3) (bitXor q v)) (6 * a .k + 4) (bitXor r v) in (
       simp length-set (e .0),
       (
         stored five (6 * a .k + 5) (bitXor (bitXor r (a .last)) v) (simp length-set (omega arith)),
         λ key g.
             six-more key w (a .k) g (e .1 .0 .0) (e .1 .0 .1) _ _ _ _ _ _
-            ((λ i. bitXor (bitXor (getD w (6 * a .k - 6) 0) (constant .ensures i * 16777216)) ((c .turned .ensures ∙ ap (λ (l : ℕ). subByte (rotByte l)) (e .1 .1 .0)) i)) ∙ turn-last (getD w (6 * a .k - 6) 0) (roundConstant (a .k - 1) * 16777216) (subByte (rotByte (getD w (6 * a .k - 1) 0))))
+            ((λ i. bitXor (bitXor (getD w (6 * a .k - 6) 0) (constant .ensures i * 16777216)) ((c .substituted-word .ensures ∙ ap (λ (l : ℕ). subByte (rotByte l)) (e .1 .1 .0)) i)) ∙ turn-last (getD w (6 * a .k - 6) 0) (roundConstant (a .k - 1) * 16777216) (subByte (rotByte (getD w (6 * a .k - 1) 0))))
             refl (into y (getD w (6 * a .k - 4) 0) v) (into p (getD w (6 * a .k - 3) 0) v) (into q (getD w (6 * a .k - 2) 0) v)
             (into r (a .last) v ∙ ap (λ (l : ℕ). bitXor l (bitXor r v)) (e .1 .1 .0)),
       ),

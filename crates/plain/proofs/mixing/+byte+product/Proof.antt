@@ -8,7 +8,7 @@ use borrow.Author.Needs.{needs}
 use borrow.Fn.Kinds.{In}
 use borrow.Fn.PlainCycle.{Measures, is, falls, and}
 use Rattle.field.specs.Field.{times}
-use Rattle.tea.specs.Mixing.{mixed, mixedByte}
+use Rattle.tea.specs.Mixing.{mixed, expandedByte}
 use Rattle.tea.proofs.MixingRule.{byte-first, byte-later}
 use Rattle.plain.proofs.mixing.byte.Reads as byte
 use Rattle.plain.proofs.mixing.byte.Kinds as byte-kinds
@@ -76,7 +76,7 @@ byte-returns-2 t c =
     let q : a .i - 10 + 1 ≡ a .i - 9 = omega (arith, g) in
     let r : a .i - 10 + 9 ≡ a .i - 1 = omega (arith, g) in
     (λ i. bitXor (bitXor (c .before .before .byte .ensures i) (c .before .byte2 .ensures i)) (c .product .ensures i))
-    ∙ sym (ap (mixedByte (a .t1)) (sym p) ∙ byte-later (a .t1) (search needs) (a .i - 10) ∙ (λ i. mixed (mixedByte (a .t1) (a .i - 10)) (mixedByte (a .t1) (q i)) (mixedByte (a .t1) (r i))))
+    ∙ sym (ap (expandedByte (a .t1)) (sym p) ∙ byte-later (a .t1) (search needs) (a .i - 10) ∙ (λ i. mixed (expandedByte (a .t1) (a .i - 10)) (expandedByte (a .t1) (q i)) (expandedByte (a .t1) (r i))))
 
 product-sub-byte : (t : ℕ) → product-lts.Need-sub-byte (byte-below t, byte.Post, times-reads.Asked, times-reads.Learnt) (product-at t) product.Post
 product-sub-byte t c = search needs

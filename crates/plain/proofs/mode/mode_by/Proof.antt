@@ -6,7 +6,7 @@ use borrow.Author.Needs.{needs}
 use lib.ListN.{getD}
 use Rattle.laws.specs.Lists.{Filled}
 use Rattle.laws.proofs.Lists.{fill-none, fill-more, fill-all, tabulate-at}
-use Rattle.tea.specs.Mixing.{mixedByte, mixedValue}
+use Rattle.tea.specs.Mixing.{expandedByte, mixedValue}
 use Rattle.tea.specs.Mode.{combined, firstOf, secondOf, modeKey, modeValue, modeBy}
 use Rattle.plain.proofs.mode.mode_by.Statement.{statement}
 use Rattle.plain.proofs.mode.mode_by.Tie as tie
@@ -23,9 +23,9 @@ loop-holds : tie.Need-loop-holds Inv-loop μ-loop
 loop-holds c = (fill-none refl, fill-none refl)
 
 -- byte k of the mixed value
-mixed-at : (iv : List ℕ) (k : ℕ) → k < 24 → mixedByte iv (20 + k) ≡ getD (mixedValue iv) k 0
+mixed-at : (iv : List ℕ) (k : ℕ) → k < 24 → expandedByte iv (20 + k) ≡ getD (mixedValue iv) k 0
 unfolding mixedValue
-mixed-at iv k h = sym (tabulate-at (λ j. mixedByte iv (20 + j)) 0 refl k h)
+mixed-at iv k h = sym (tabulate-at (λ j. expandedByte iv (20 + j)) 0 refl k h)
 
 loop-again : tie.Need-loop-again Inv-loop μ-loop
 loop-again c =

@@ -5,13 +5,13 @@ use borrow.Author.Needs.{needs}
 use lib.ListN.{length}
 use Rattle.laws.specs.Lists.{Filled}
 use Rattle.laws.proofs.Lists.{fill-none, fill-more, fill-to}
-use Rattle.tea.specs.Mixing.{mixedByte}
+use Rattle.tea.specs.Mixing.{expandedByte}
 use Rattle.tea.proofs.MixingRule.{byte-first}
 use Rattle.tea.proofs.mixing.first_bytes.Statement.{statement}
 use Rattle.tea.proofs.mixing.first_bytes.Tie as tie
 
 abbrev Inv-loop : tie.InvT-loop
-Inv-loop iv b₀ i₀ b i = (i ≤ 10) × Filled (mixedByte iv) 0 44 b i
+Inv-loop iv b₀ i₀ b i = (i ≤ 10) × Filled (expandedByte iv) 0 44 b i
 
 abbrev μ-loop : tie.MeasureT-loop
 μ-loop iv b₀ i₀ b i = 10 - i

@@ -9,14 +9,14 @@ use lib.Dec.{lit<}
 use lib.ListN.{length, getD, set, length-set}
 use Rattle.laws.specs.Lists.{Filled}
 use Rattle.laws.proofs.Lists.{fill-all}
-use Rattle.tea.specs.Mixing.{mixedByte}
+use Rattle.tea.specs.Mixing.{expandedByte}
 use Rattle.tea.proofs.MixingRule.{byte-same, byte-more, last-is, two-are}
 use Rattle.tea.proofs.mixing.mixed_bytes.Statement.{statement}
 use Rattle.tea.proofs.mixing.mixed_bytes.Tie as tie
 
 abbrev Inv-loop : tie.InvT-loop
 Inv-loop b₀ last₀ two₀ i₀ b last two i =
-    ((10 ≤ i) × (i ≤ 44)) × ((length b ≡ 44) × ((last ≡ getD b (i - 1) 0) × ((two ≡ bitXor (getD b (i - 10) 0) (getD b (i - 9) 0)) × ((iv : List ℕ) → length iv ≡ 10 → Filled (mixedByte iv) 0 44 b₀ 10 → Filled (mixedByte iv) 0 44 b i))))
+    ((10 ≤ i) × (i ≤ 44)) × ((length b ≡ 44) × ((last ≡ getD b (i - 1) 0) × ((two ≡ bitXor (getD b (i - 10) 0) (getD b (i - 9) 0)) × ((iv : List ℕ) → length iv ≡ 10 → Filled (expandedByte iv) 0 44 b₀ 10 → Filled (expandedByte iv) 0 44 b i))))
 
 abbrev μ-loop : tie.MeasureT-loop
 μ-loop b₀ last₀ two₀ i₀ b last two i = 44 - i

@@ -6,7 +6,7 @@ use borrow.Author.Needs.{needs}
 use lib.ListN.{getD}
 use Rattle.laws.specs.Lists.{Filled}
 use Rattle.laws.proofs.Lists.{fill-none, fill-more, fill-are, tabulate-at}
-use Rattle.tea.specs.Mixing.{mixedByte, mixedValue}
+use Rattle.tea.specs.Mixing.{expandedByte, mixedValue}
 use Rattle.tea.proofs.mixing.mixed_value.Statement.{statement}
 use Rattle.tea.proofs.mixing.mixed_value.Tie as tie
 
@@ -25,7 +25,7 @@ loop-again c = fill-more (c .before .loop .inv) (c .loop-test .taken) _ refl
 returns : tie.Need-returns Inv-loop μ-loop
 unfolding mixedValue
 returns c =
-    fill-are (c .before .loop .inv) (c .loop-test .left) (λ k h. tabulate-at (mixedByte _) 0 (c .before .before .mixed-bytes .ensures) (20 + k) (omega arith))
+    fill-are (c .before .loop .inv) (c .loop-test .left) (λ k h. tabulate-at (expandedByte _) 0 (c .before .before .mixed-bytes .ensures) (20 + k) (omega arith))
 
 pub mixed-value-spec : {M : Type 1} → statement M
 mixed-value-spec =

@@ -1,4 +1,4 @@
--- `schedule::turned`: byte by byte. Assumes nothing.
+-- `schedule::substituted_word`: byte by byte. Assumes nothing.
 use mathlib.Core.Path.{sym, ap, _∙_}
 use Prim.Native.Nat.{_<_}
 use borrow.Author.Needs.{needs}
@@ -6,8 +6,8 @@ use Rattle.field.specs.Field.{sBox}
 use Rattle.schedule.specs.Schedule.{subByte}
 use Rattle.words.specs.Words.{join}
 use Rattle.schedule.proofs.KeyWords.{turn-0, turn-1, turn-2, turn-3}
-use Rattle.schedule.proofs.turned.Statement.{statement}
-use Rattle.schedule.proofs.turned.Tie as tie
+use Rattle.schedule.proofs.substituted_word.Statement.{statement}
+use Rattle.schedule.proofs.substituted_word.Tie as tie
 
 returns : tie.Need-returns
 unfolding subByte
@@ -21,8 +21,8 @@ returns c =
     ((c .before .before .before .substituted3 .ensures ∙ ap sBox (c .before .before .before .before .byte3 .ensures ∙ sym (turn-2 x h))) i)
     ((c .before .substituted4 .ensures ∙ ap sBox (c .before .before .byte0 .ensures ∙ sym (turn-3 x h))) i))
 
-pub turned-spec : {M : Type 1} → statement M
-turned-spec =
+pub substituted-word-spec : {M : Type 1} → statement M
+substituted-word-spec =
     tie.close
     (tie.spec
     (λ c κs. search needs) (λ c κs. search needs) (λ c κs. search needs) (λ c κs. search needs) (λ c κs. search needs) (λ c κs. search needs)
