@@ -178,10 +178,10 @@ static const struct bar its_cipher = {
     {{[THE_KEY] = 24, [KEYSTREAM] = 16}},
 };
 
-/* The plain engine: its schedule is bytes, and its own. */
+/* The plain engine, which hands its schedule on by value: the C library copies it through wide registers. */
 static const struct bar its_plain = {
-    {{[THE_KEY] = 24, [MODE_KEY] = 24, [MODE_VALUE] = 24, [SCHEDULE] = 456, [KEYSTREAM] = 32}},
-    {{[THE_KEY] = 24, [MODE_KEY] = 24, [MODE_VALUE] = 24, [KEYSTREAM] = 32}},
+    {{[MODE_KEY] = 24, [MODE_VALUE] = 24, [SCHEDULE] = 456, [KEYSTREAM] = 32}},
+    {{[SCHEDULE] = 456, [KEYSTREAM] = 32}},
 };
 
 /* The records: the key, and its digits in registers. */
