@@ -60,7 +60,9 @@ pub extern "C" fn card_plain(
     skip: usize,
     blocks: &mut usize,
 ) -> u8
-    ensures { λ r. ⌜ (r ≡ givenRefusal algorithm (now (key .entry)) (now (iv .entry)) (now (buf .entry)) n skip) × (now (buf .exit) ≡ given algorithm (now (key .entry)) (now (iv .entry)) (now (buf .entry)) n skip) × (now (blocks .exit) ≡ givenBlocks algorithm (now (key .entry)) (now (iv .entry)) (now (buf .entry)) n skip) ⌝ }
+    ensures { λ r. ⌜ (r ≡ givenRefusal algorithm (now (key .entry)) (now (iv .entry)) (now (buf .entry)) n skip)
+        × (now (buf .exit) ≡ given algorithm (now (key .entry)) (now (iv .entry)) (now (buf .entry)) n skip)
+        × (now (blocks .exit) ≡ givenBlocks algorithm (now (key .entry)) (now (iv .entry)) (now (buf .entry)) n skip) ⌝ }
 {
     *blocks = 0;
     let refusal = refusal_of(algorithm, key, iv, &buf[..], n, skip);
