@@ -12,7 +12,8 @@ use Rattle.laws.proofs.Lists.{length-tabulate, getD-tabulate}
 use Rattle.laws.proofs.States.{Shape, columns-all, grid-at}
 use Rattle.laws.proofs.Xor.{xor-back}
 use Rattle.field.specs.Field.{sBox}
-use Rattle.words.specs.Words.{join, byteOf}
+use Rattle.words.specs.Words.{byteOf}
+use Rattle.words.proofs.Bytes.{joined}
 use Rattle.rounds.specs.Steps.{byteSub, shiftOf, shiftRow, mixedByte, mixColumn, addRoundKey}
 use Rattle.inv_bytes.specs.Bytes.{invSBox, invMixedByte}
 use Rattle.inv_parts.specs.Steps.{invByteSub, invShiftRow, invMixColumn}
@@ -190,23 +191,6 @@ pub key-same : (v w : List ℕ) (n : ℕ) (s : List (List ℕ)) → ((c : ℕ) �
 unfolding addRoundKey
 key-same v w n s e = grid-ext _ _ (λ r c hr hc. ap (λ (x : ℕ). bitXor (cell s r c) (byteOf x r)) (e c hc))
 
--- the bytes of a word that is made of four
-module _ (a b c d : ℕ) (ha : a < 256) (hb : b < 256) (hc : c < 256) (hd : d < 256) where
-  low : (q p b : ℕ) → q ≡ p * 256 + b → b < 256 → q % 256 ≡ b
-  low q p b e h = omega arith
-
-  byte-0 : byteOf (join a b c d) 0 ≡ a
-  byte-0 = let e : join a b c d / 16777216 ≡ a = omega arith in low _ 0 a (e ∙ omega arith) ha
-
-  byte-1 : byteOf (join a b c d) 1 ≡ b
-  byte-1 = let e : join a b c d / 65536 ≡ a * 256 + b = omega arith in low _ a b e hb
-
-  byte-2 : byteOf (join a b c d) 2 ≡ c
-  byte-2 = let e : join a b c d / 256 ≡ (a * 256 + b) * 256 + c = omega arith in low _ (a * 256 + b) c e hc
-
-  byte-3 : byteOf (join a b c d) 3 ≡ d
-  byte-3 = let e : join a b c d / 1 ≡ ((a * 256 + b) * 256 + c) * 256 + d = omega arith in low _ ((a * 256 + b) * 256 + c) d e hd
-
 -- a byte of a word that went through the inverse mixing
 word-byte : (x r : ℕ) → r < 4 → byteOf (invMixedWord x) r ≡ invMixedByte (byteOf x r) (byteOf x ((r + 1) % 4)) (byteOf x ((r + 2) % 4)) (byteOf x ((r + 3) % 4))
 unfolding invMixedWord
@@ -219,8 +203,9 @@ word-byte x =
     let t1 = unmixed-small _ _ _ _ s1 s2 s3 s0 in
     let t2 = unmixed-small _ _ _ _ s2 s3 s0 s1 in
     let t3 = unmixed-small _ _ _ _ s3 s0 s1 s2 in
+    let bytes = joined _ _ _ _ t0 t1 t2 t3 in
     below-four (λ r. byteOf (invMixedWord x) r ≡ invMixedByte (byteOf x r) (byteOf x ((r + 1) % 4)) (byteOf x ((r + 2) % 4)) (byteOf x ((r + 3) % 4)))
-    (byte-0 _ _ _ _ t0 t1 t2 t3) (byte-1 _ _ _ _ t0 t1 t2 t3) (byte-2 _ _ _ _ t0 t1 t2 t3) (byte-3 _ _ _ _ t0 t1 t2 t3)
+    (λ i. getD (bytes i) 0 0) (λ i. getD (bytes i) 1 0) (λ i. getD (bytes i) 2 0) (λ i. getD (bytes i) 3 0)
 
 -- the inverse mixing and then a key that went through it: the key and then the inverse mixing
 pub key-through : (v w : List ℕ) (n : ℕ) {s : List (List ℕ)} → Good s → ((c : ℕ) → c < 8 → getD v (8 * n + c) 0 ≡ invMixedWord (getD w (8 * n + c) 0))
