@@ -1,14 +1,10 @@
--- Answers part by part, as one record. Assumes nothing.
+-- The answer of a call that changes the table, part by part and as one record. Assumes nothing.
 use mathlib.Core.Path.{_≡_}
 use mathlib.Core.List.{List}
 use Prim.Native.Nat.{ℕ}
 use Rattle.slots.specs.declared.Slot.{Slot}
 use Rattle.slots.specs.declared.Changed.{Changed}
-use Rattle.card.specs.Span.{cipheredAs}
 use Rattle.card.specs.Table.{changedAs}
-
-pub ciphered-is : {r s : ℕ} {b c : List ℕ} {k l : ℕ} → r ≡ s → b ≡ c → k ≡ l → cipheredAs r b k ≡ cipheredAs s c l
-ciphered-is e f g = λ i. cipheredAs (e i) (f i) (g i)
 
 pub changed-is : (c : Changed) {r : ℕ} {t : List Slot} → (r ≡ c .refusal) × (t ≡ c .table) → changedAs r t ≡ c
 changed-is c e = λ i. changedAs (e .0 i) (e .1 i)

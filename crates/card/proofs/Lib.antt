@@ -1,14 +1,2 @@
 pub mod Answers
-pub mod Copies
-pub mod Passed
-pub mod Laws
-pub mod SlotLaws
-pub mod Walk
-pub mod Shared
-pub mod CallRules
-pub mod BadTurns
-pub mod Heads
-pub mod SeenTraffic
 pub mod SeenTables
-pub mod SlotCalls
-pub mod LentOn

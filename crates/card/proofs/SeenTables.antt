@@ -20,9 +20,10 @@ use Rattle.slots.specs.Calls.{loadRefusalOf, moveRefusalOf, clearRefusalOf, ans
 use Rattle.slots.specs.Seen.{loadPut, movePut, emptiedBy, clearPut}
 use Rattle.slots.proofs.AsSeen.{Same, load-seen, move-seen, clear-seen, shown-seen}
 use Rattle.slots.proofs.Passed.{LoadPassedOf, MovePassedOf, ClearPassedOf, load-passed-of, move-passed-of, clear-passed-of}
-use Rattle.card.specs.Traffic.{trafficRefusalOf, traffickedOf, trafficBlocksOf}
-use Rattle.card.specs.Table.{isTable, isNoTable, placeOf, slotIn, putIn, loadedIn, movedIn, clearedIn, shownIn, trafficRefusalIn, traffickedIn, trafficBlocksIn}
-use Rattle.card.proofs.SeenTraffic.{refusal-seen, buffer-seen, blocks-seen}
+use Rattle.traffic.specs.Traffic.{trafficRefusalOf, traffickedOf, trafficBlocksOf}
+use Rattle.slot_list.specs.List.{isTable, isNoTable, placeOf, slotIn, putIn}
+use Rattle.card.specs.Table.{loadedIn, movedIn, clearedIn, shownIn, trafficRefusalIn, traffickedIn, trafficBlocksIn}
+use Rattle.traffic.proofs.SeenTraffic.{refusal-seen, buffer-seen, blocks-seen}
 
 module _ (ys : List Slot) where
   a-table : isNoTable ys ≡ false → isTable ys ≡ true

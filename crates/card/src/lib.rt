@@ -1,11 +1,6 @@
 // The card: the calls that an integrator makes, each with every refusal of document 01.
-pub mod bench;
-pub mod ciphering;
-pub mod lent;
-mod lent_table;
+pub mod bench_call;
 pub mod listing;
-pub mod pdu;
+pub mod plan_call;
 pub mod record;
-mod span_tests;
 pub mod table;
-pub mod traffic;

@@ -3,16 +3,16 @@ ghost use mathlib.Core.Path.{_≡_};
 ghost use Rattle.slots.specs.Calls.{shownOf};
 ghost use Rattle.slots.specs.Seen.{loadPut};
 ghost use Rattle.card.specs.Faces.{asking};
-ghost use Rattle.card.specs.Span.{cipheredAs};
+ghost use Rattle.ciphering.specs.Span.{cipheredAs};
 ghost use Rattle.card.specs.Table.{changedAs, loadedIn, movedIn, clearedIn, shownAs, shownIn, trafficAnswerIn};
-ghost use Rattle.card.specs.Traffic.{trafficRefusalOf, traffickedOf, trafficBlocksOf};
-use crate::lent_table::is_no_table;
-use crate::lent_table::put_slot;
-use crate::lent_table::slot_in;
-use crate::traffic::traffic_of;
+ghost use Rattle.traffic.specs.Traffic.{trafficRefusalOf, traffickedOf, trafficBlocksOf};
 use fields::Asked;
+use slot_list::is_no_table;
+use slot_list::put_slot;
+use slot_list::slot_in;
 use slots::Put;
 use slots::Slot;
+use traffic::traffic_of;
 
 fn load_from(
     bad: bool,

@@ -7,7 +7,7 @@ use native.Mathlib.Omega.{arith}
 use lib.ListN.{length}
 use Rattle.span.specs.Span.{longestBuffer}
 use Rattle.laws.proofs.Cases.{and-left, and-right}
-use Rattle.card.proofs.Passed.{KeyedPassed, keyed-passed}
+use Rattle.bench.proofs.Passed.{KeyedPassed, keyed-passed}
 use Rattle.cases.specs.Line.{part}
 use Rattle.cases.specs.Parts.{areBytes}
 use Rattle.cases.specs.Case.{Case, lastPart, numbersReadable, isReadable, caseOf, Accepted}

@@ -8,7 +8,7 @@ use Prim.Native.Nat.{ℕ, _<_, _≤_}
 use lib.ListN.{length, getD}
 use Rattle.refusals.specs.Numbers.{done}
 use Rattle.records.specs.Text.{digits, hexText}
-use Rattle.card.specs.Bench.{keyedRefusal}
+use Rattle.bench.specs.Bench.{keyedRefusal}
 use Rattle.cases.specs.Line.{space, afterSpaces, part}
 use Rattle.cases.specs.Parts.{largest, numberOf, areBytes, bytesOf}
 

@@ -52,7 +52,7 @@ fn cipher(buf: &mut [u8], line: &[u8])
     let ck = key_of(line);
     let iv = iv_of(line);
     read_bytes(after_spaces(line, 6), buf);
-    card::ciphering::cipher_from(buf, start, bits, skip, algorithm, ck, iv);
+    ciphering::xor::cipher_from(buf, start, bits, skip, algorithm, ck, iv);
 }
 
 // The ciphered buffer and LF, by way of a lent buffer of its size.

@@ -4,7 +4,7 @@ use crate::bytes::read_bytes;
 use crate::line::after_spaces;
 use crate::line::part;
 use crate::number::read_number;
-use card::bench::keyed_refusal;
+use bench::keyed_refusal;
 ghost use mathlib.Core.Path.{_≡_};
 ghost use Prim.Native.Nat.{_/_};
 ghost use lib.ListN.{length};

@@ -21,11 +21,13 @@ use Rattle.span.proofs.Stream.{stream-lt}
 use Rattle.keystream.specs.Stream.{keystream}
 use Rattle.slots.specs.declared.Slot.{Slot}
 use Rattle.slots.specs.Slots.{hasBad, slotAt}
-use Rattle.card.specs.Bench.{benchRefusal, benched}
-use Rattle.card.specs.Table.{isTable, isNoTable, trafficRefusalIn, traffickedIn}
-use Rattle.card.specs.Traffic.{slotStream, trafficRefusalOf, traffickedOf}
-use Rattle.card.proofs.Laws.{traffic-accepted, traffic-twice}
-use Rattle.card.proofs.Passed.{keyed-passed, traffic-passed-of}
+use Rattle.bench.specs.Bench.{benchRefusal, benched}
+use Rattle.slot_list.specs.List.{isTable, isNoTable}
+use Rattle.card.specs.Table.{trafficRefusalIn, traffickedIn}
+use Rattle.traffic.specs.Traffic.{slotStream, trafficRefusalOf, traffickedOf}
+use Rattle.traffic.proofs.Laws.{traffic-accepted, traffic-twice}
+use Rattle.bench.proofs.Passed.{keyed-passed}
+use Rattle.traffic.proofs.Passed.{traffic-passed-of}
 
 module _ (t : List Slot) (direction number : ℕ) (iv buf : List ℕ) (start n skip : ℕ) where
   -- an accepted call has a table, so that what is known of a table by value is known of the lent one

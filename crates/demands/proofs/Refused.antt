@@ -22,10 +22,11 @@ use Rattle.records.specs.Record.{lineOf, recordRead, writeRefusal, recordWritte
 use Rattle.records.proofs.Promises.{read-or-refused}
 use Rattle.plan.specs.Plan.{planRefusal, planOf}
 use Rattle.sheet.specs.Sheet.{room, listedLength, listedBuffer}
-use Rattle.card.specs.Bench.{benchRefusal, benched, benchBlocks}
+use Rattle.bench.specs.Bench.{benchRefusal, benched, benchBlocks}
 use Rattle.card.specs.Faces.{pieceNumbers}
-use Rattle.card.specs.Table.{isNoTable, loadedIn, movedIn, clearedIn, shownIn, trafficRefusalIn, traffickedIn, trafficBlocksIn}
-use Rattle.card.specs.Traffic.{traffickedOf, trafficBlocksOf}
+use Rattle.slot_list.specs.List.{isNoTable}
+use Rattle.card.specs.Table.{loadedIn, movedIn, clearedIn, shownIn, trafficRefusalIn, traffickedIn, trafficBlocksIn}
+use Rattle.traffic.specs.Traffic.{traffickedOf, trafficBlocksOf}
 
 module _ (t : List Slot) where
   -- `card_load`, `card_move`, `card_clear`: the lent list is as it was

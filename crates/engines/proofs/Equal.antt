@@ -5,8 +5,8 @@ use mathlib.Core.Path.{_≡_, sym, ap, _∙_}
 use mathlib.Core.List.{List}
 use Prim.Native.Nat.{ℕ}
 use denote.Ref.{RefT}
-use Rattle.card.specs.Span.{Ciphered}
-use Rattle.card.proofs.bench.card_bench.Reads as card-bench
+use Rattle.ciphering.specs.Span.{Ciphered}
+use Rattle.card.proofs.bench_call.card_bench.Reads as card-bench
 use Rattle.plain.specs.Given.{givenRefusal, given, givenBlocks}
 use Rattle.plain.proofs.Given.{given-bench}
 use Rattle.plain.proofs.call.card_plain.Reads as card-plain

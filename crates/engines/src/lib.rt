@@ -5,8 +5,8 @@ ghost use lib.ListN.{length};
 ghost use Rattle.span.specs.Span.{written};
 ghost use Rattle.keystream.specs.Stream.{keystream};
 ghost use Rattle.plain.specs.Given.{givenRefusal, given, givenBlocks};
-use card::lent::iv_of;
-use card::lent::key_of;
+use ciphering::lent::iv_of;
+use ciphering::lent::key_of;
 use plain::call::refusal_of;
 
 // Bits 0 to n - 1 of the buffer become the keystream's from bit `skip` on: what the bench call does, with a skip.

@@ -5,7 +5,7 @@ use Prim.Native.Nat.{ℕ}
 use borrow.Author.Tests.{eq-eqb, ne-eqb}
 use Rattle.span.specs.Span.{written, blocksUsed}
 use Rattle.keystream.specs.Stream.{keystream}
-use Rattle.card.specs.Bench.{benchRefusal, benched, benchBlocks}
+use Rattle.bench.specs.Bench.{benchRefusal, benched, benchBlocks}
 use Rattle.plain.specs.Given.{givenRefusal, given, givenBlocks}
 
 module _ (algorithm : ℕ) (key iv buf : List ℕ) (n : ℕ) where

@@ -8,7 +8,7 @@ use Rattle.laws.specs.Choice.{pick}
 use Rattle.refusals.specs.Numbers.{done}
 use Rattle.span.specs.Span.{written, blocksUsed}
 use Rattle.keystream.specs.Stream.{keystream}
-use Rattle.card.specs.Bench.{keyedRefusal}
+use Rattle.bench.specs.Bench.{keyedRefusal}
 
 -- the buffer is written from its bit 0 on, whatever is skipped of the keystream
 abbrev pub givenRefusal : ℕ → List ℕ → List ℕ → List ℕ → ℕ → ℕ → ℕ

@@ -13,7 +13,7 @@ use tea::mode::Mode;
 pub fn refusal_of(algorithm: u64, key: &[u8], iv: &[u8], buf: &[u8], n: usize, skip: usize) -> u8
     ensures { λ r. ⌜ r ≡ givenRefusal algorithm (now (key .entry)) (now (iv .entry)) (now (buf .entry)) n skip ⌝ }
 {
-    card::bench::keyed_refusal(algorithm, key.len(), iv.len(), buf.len(), 0, n, skip)
+    bench::keyed_refusal(algorithm, key.len(), iv.len(), buf.len(), 0, n, skip)
 }
 
 // How many of `left` bits a block still has from its bit `from` on.
@@ -69,7 +69,11 @@ pub extern "C" fn card_plain(
     if refusal != refusals::DONE {
         return refusal;
     }
-    let mode = mode_of(algorithm, card::lent::key_of(key), card::lent::iv_of(iv));
+    let mode = mode_of(
+        algorithm,
+        ciphering::lent::key_of(key),
+        ciphering::lent::iv_of(iv),
+    );
     write_blocks(buf, n, skip, mode);
     *blocks = span::blocks_used(skip, n);
     refusals::DONE

@@ -11,7 +11,7 @@ use Rattle.slots.specs.declared.Changed.{Changed}
 use Rattle.slots.specs.declared.Shown.{Shown}
 use Rattle.slots.specs.Slots.{empty, slotAt, withSlot}
 use Rattle.slots.specs.Calls.{moveRefusal, answered, loaded, moved, cleared, shown}
-use Rattle.card.specs.Traffic.{trafficRefusal, trafficBlocks, trafficked}
+use Rattle.traffic.specs.Traffic.{trafficRefusal, trafficBlocks, trafficked}
 use Rattle.runs.specs.Calls.{Use, Origin}
 use Rattle.runs.specs.Card.{Card, OfTraffic, cardBy}
 

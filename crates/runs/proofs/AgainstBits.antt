@@ -15,9 +15,9 @@ use Rattle.slots.specs.Calls.{loadRefusalOf, slotRefusalOf}
 use Rattle.span.proofs.Laws.{xored-inside}
 use Rattle.span.proofs.Stream.{stream-lt}
 use Rattle.keystream.specs.Stream.{keystream}
-use Rattle.card.specs.Span.{spanRefusal}
-use Rattle.card.specs.Traffic.{useRefusalOf, trafficRefusalOf, trafficked}
-use Rattle.card.proofs.Laws.{traffic-accepted}
+use Rattle.ciphering.specs.Span.{spanRefusal}
+use Rattle.traffic.specs.Traffic.{useRefusalOf, trafficRefusalOf, trafficked}
+use Rattle.traffic.proofs.Laws.{traffic-accepted}
 use Rattle.runs.specs.Calls.{Use, Work, span, spanOf, Call, load, traffic, Origin, loadAt, present, end, more, same, other-key}
 use Rattle.runs.specs.Step.{Seen}
 use Rattle.runs.specs.Card.{Card, OfTraffic, step}

@@ -15,9 +15,9 @@ use Rattle.span.proofs.Laws.{xored-inside}
 use Rattle.span.proofs.Stream.{stream-lt}
 use Rattle.keystream.specs.Stream.{keystream}
 use Rattle.keystream.proofs.Known.{known}
-use Rattle.card.specs.Span.{spanRefusal}
-use Rattle.card.specs.Traffic.{useRefusalOf, useRefusal, trafficRefusalOf, trafficRefusal, trafficked}
-use Rattle.card.proofs.Laws.{traffic-accepted}
+use Rattle.ciphering.specs.Span.{spanRefusal}
+use Rattle.traffic.specs.Traffic.{useRefusalOf, useRefusal, trafficRefusalOf, trafficRefusal, trafficked}
+use Rattle.traffic.proofs.Laws.{traffic-accepted}
 use Rattle.runs.specs.Calls.{Call, load, loadAt, end, more, same, other-key}
 use Rattle.runs.specs.Step.{told, changing}
 use Rattle.runs.specs.Card.{Card, step}

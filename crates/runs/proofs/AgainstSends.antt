@@ -11,8 +11,8 @@ use Rattle.fields.specs.Fields.{storedOf}
 use Rattle.slots.specs.Slots.{allZero, isEmpty, isFilled, isBad, hasBad, empty, emptyTable, withSlot}
 use Rattle.slots.specs.declared.Slot.{Slot}
 use Rattle.slots.specs.Calls.{loadRefusalOf, moveRefusalOf, slotRefusalOf}
-use Rattle.card.specs.Span.{spanRefusal}
-use Rattle.card.specs.Traffic.{useRefusalOf, trafficRefusalOf, trafficRefusal}
+use Rattle.ciphering.specs.Span.{spanRefusal}
+use Rattle.traffic.specs.Traffic.{useRefusalOf, trafficRefusalOf, trafficRefusal}
 use Rattle.runs.specs.Calls.{span, Call, load, move, traffic, loadAt, end, more, same}
 use Rattle.runs.specs.Card.{Card, OfTraffic, step}
 use Rattle.runs.specs.Trace.{traced}

@@ -9,8 +9,8 @@ use Rattle.slots.specs.Calls.{shown}
 use Rattle.span.specs.Span.{blocksUsed}
 use Rattle.span.proofs.Laws.{length-xored}
 use Rattle.keystream.specs.Stream.{keystream}
-use Rattle.card.specs.Span.{spanRefusal}
-use Rattle.card.specs.Traffic.{trafficBlocksOf, trafficBlocks, trafficked}
+use Rattle.ciphering.specs.Span.{spanRefusal}
+use Rattle.traffic.specs.Traffic.{trafficBlocksOf, trafficBlocks, trafficked}
 use Rattle.runs.specs.Calls.{span, read, traffic}
 use Rattle.runs.specs.Card.{Card, step}
 use Rattle.runs.specs.Demand.{Demand3}

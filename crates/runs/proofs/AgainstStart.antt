@@ -10,7 +10,7 @@ use Rattle.refusals.specs.Numbers.{algorithmUnknown, refuse}
 use Rattle.slots.specs.declared.Slot.{Slot}
 use Rattle.slots.specs.Slots.{allZero, isEmpty, isFilled, isBad, hasBad, empty, slotAt, emptyTable, withSlot}
 use Rattle.slots.specs.Calls.{loadRefusal, answered, loaded, moved, cleared, shown}
-use Rattle.card.specs.Traffic.{trafficRefusal, trafficBlocks, trafficked}
+use Rattle.traffic.specs.Traffic.{trafficRefusal, trafficBlocks, trafficked}
 use Rattle.runs.specs.Calls.{read, end, more, same, slot, other-present, Starts}
 use Rattle.runs.specs.Card.{Card, step, cardBy}
 use Rattle.runs.specs.Run.{run}

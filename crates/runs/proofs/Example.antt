@@ -9,8 +9,8 @@ use Rattle.fields.specs.declared.Asked.{Asked}
 use Rattle.slots.specs.Slots.{allZero, isEmpty, isFilled, isBad, hasBad, emptyTable}
 use Rattle.slots.specs.Calls.{loadRefusalOf, moveRefusalOf, slotRefusalOf, clearRefusalOf}
 use Rattle.span.specs.Span.{blocksUsed}
-use Rattle.card.specs.Span.{spanRefusal}
-use Rattle.card.specs.Traffic.{useRefusalOf, trafficRefusalOf, trafficBlocksOf}
+use Rattle.ciphering.specs.Span.{spanRefusal}
+use Rattle.traffic.specs.Traffic.{useRefusalOf, trafficRefusalOf, trafficBlocksOf}
 use Rattle.runs.specs.Calls.{span, Call, load, move, clear, read, traffic, loadAt}
 use Rattle.runs.specs.Step.{Seen}
 use Rattle.runs.specs.Card.{ourCard, step}

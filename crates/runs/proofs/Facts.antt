@@ -28,9 +28,9 @@ use Rattle.span.specs.Span.{xored}
 use Rattle.span.proofs.Within.{Beside}
 use Rattle.span.proofs.Laws.{length-xored, xored-outside}
 use Rattle.span.proofs.Stream.{stream-lt}
-use Rattle.card.specs.Traffic.{onSide, slotStream, useRefusalOf, trafficRefusalOf, trafficRefusal, trafficBlocksOf, traffickedOf, trafficked}
-use Rattle.card.proofs.Laws.{traffic-refused}
-use Rattle.card.proofs.Passed.{UsePassedOf, traffic-passed}
+use Rattle.traffic.specs.Traffic.{onSide, slotStream, useRefusalOf, trafficRefusalOf, trafficRefusal, trafficBlocksOf, traffickedOf, trafficked}
+use Rattle.traffic.proofs.Laws.{traffic-refused}
+use Rattle.traffic.proofs.Passed.{UsePassedOf, traffic-passed}
 use Rattle.runs.specs.Calls.{Use, Work, span, spanOf}
 use Rattle.runs.specs.Step.{told, changing, reading}
 use Rattle.runs.specs.Card.{ourCard}

@@ -6,7 +6,7 @@ use Rattle.slots.specs.declared.Slot.{Slot}
 use Rattle.slots.specs.declared.Changed.{Changed}
 use Rattle.slots.specs.declared.Shown.{Shown}
 use Rattle.slots.specs.Calls.{loaded, moved, cleared, shown}
-use Rattle.card.specs.Traffic.{trafficRefusal, trafficBlocks, trafficked}
+use Rattle.traffic.specs.Traffic.{trafficRefusal, trafficBlocks, trafficked}
 use Rattle.runs.specs.Calls.{Use, Work, span, Call, load, move, clear, read, traffic}
 use Rattle.runs.specs.Step.{Step, changing, reading, ciphering}
 

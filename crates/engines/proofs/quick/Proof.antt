@@ -5,7 +5,7 @@ use lib.ListN.{length}
 use borrow.Author.Needs.{needs}
 use Rattle.span.specs.Span.{written}
 use Rattle.keystream.specs.Stream.{keystream}
-use Rattle.card.proofs.Passed.{KeyedPassed, keyed-passed}
+use Rattle.bench.proofs.Passed.{KeyedPassed, keyed-passed}
 use Rattle.plain.specs.Given.{givenRefusal}
 use Rattle.plain.proofs.Given.{given-refused, given-done}
 use Rattle.engines.proofs.quick.Statement.{statement}

@@ -1,27 +1,28 @@
 -- `card::table::card_read` meets its contract: a walk of its MIR, by hand. `is_no_table` and `slot_in` look at the lent table where it lies, and `show_from` has what they saw and the six places for the answer, for good. There are two lifetimes, κ of t and λ of the six places.
 -- All that it knows of the three is that each meets its contract. Assumes nothing.
-use Rattle.card.proofs.Walk.{_≡_, refl, _∙_, ℕ, _<_, _^_, List, [], _∷_, length, URA, named, w8, w64, Val, vint, vptr, SProp, ent, emp, via, fst∗, id⊢, Lft, GName, Share, ftrue, flft, Memory, Routine, Heap, Calls, Loops, WpFn, Tables, Atoms, Fun, givenOf, tables, tablesOf, Given, Item, ‵, raw, _⊛_, ⋆, _$_, _∵_, !, qed, by, move, drop, use1, use2, split, join, fsplit, suffices, frame, done, look, init, forget, stop, hop, from, load, addr, and-then, no-more, assigns, land, returns, enter, alloc1, alloc0, params1, pass1, pass0, free1, free0, FmC, fmOf, WpFn-mono, RattleType, owns, Is, uint-makes, uint-lawful, uint-vals, uint-tells, u8, u16, u64, RefT, MutRef, ptr-vals, mut-tells, ShrSlice, Room, slice-vals, shr-slice-tells, plainly, shrSliceOf, owned, Vals, onEntry, Meets, tripleOf, lasts, Contract, Triple, entered, cited, says, Stays, gave-ref, stay-dropped, walkOf, goes-gave-ref, goes-dropped, ends-at, walked, walk-meets, yes}
+use Rattle.slot_list.proofs.Walk.{_≡_, refl, _∙_, ℕ, _<_, _^_, List, [], _∷_, length, URA, named, w8, w64, Val, vint, vptr, SProp, ent, emp, via, fst∗, id⊢, Lft, GName, Share, ftrue, flft, Memory, Routine, Heap, Calls, Loops, WpFn, Tables, Atoms, Fun, givenOf, tables, tablesOf, Given, Item, ‵, raw, _⊛_, ⋆, _$_, _∵_, !, qed, by, move, drop, use1, use2, split, join, fsplit, suffices, frame, done, look, init, forget, stop, hop, from, load, addr, and-then, no-more, assigns, land, returns, enter, alloc1, alloc0, params1, pass1, pass0, free1, free0, FmC, fmOf, WpFn-mono, RattleType, owns, Is, uint-makes, uint-lawful, uint-vals, uint-tells, u8, u16, u64, RefT, MutRef, ptr-vals, mut-tells, ShrSlice, Room, slice-vals, shr-slice-tells, plainly, shrSliceOf, owned, Vals, onEntry, Meets, tripleOf, lasts, Contract, Triple, entered, cited, says, Stays, gave-ref, stay-dropped, walkOf, goes-gave-ref, goes-dropped, ends-at, walked, walk-meets, yes}
 use denote.RattleType.{Denots, Valss}
 use denote.Triple.Clauses.{Lasts}
 use Rattle.slots.specs.declared.Slot.{Slot}
 use Rattle.slots.specs.declared.Shown.{Shown}
 use Rattle.slots.specs.Calls.{shownOf}
-use Rattle.card.specs.Table.{isNoTable, slotIn, shownAs, shownIn}
-use Rattle.card.proofs.CallRules.{Of, calls-fn}
-use Rattle.card.proofs.SlotLaws.{R, typed}
+use Rattle.slot_list.specs.List.{isNoTable, slotIn}
+use Rattle.card.specs.Table.{shownAs, shownIn}
+use Rattle.slot_list.proofs.CallRules.{Of, calls-fn}
+use Rattle.slot_list.proofs.SlotLaws.{R, typed}
 use denote.Plain.{bool-lawful}
-use Rattle.card.proofs.SlotCalls.{IsNoTable, SlotIn, lent, slice, asks-table, takes-slot, with-seen}
+use Rattle.slot_list.proofs.SlotCalls.{IsNoTable, SlotIn, lent, slice, asks-table, takes-slot, with-seen}
 use Rattle.card.proofs.SeenTables.{shown-in}
 use Rattle.card.proofs.table.show_from as core
 use Rattle.card.proofs.table.show_from.Symbol as core-def
 use Rattle.card.proofs.table.show_from.Symbol.{name as #core}
 use Rattle.card.proofs.table.show_from.Met as core-thm
-use Rattle.card.proofs.lent_table.is_no_table.Symbol as is-no-table-def
-use Rattle.card.proofs.lent_table.is_no_table.Symbol.{name as #is-no-table}
-use Rattle.card.proofs.lent_table.is_no_table.Met as is-no-table-thm
-use Rattle.card.proofs.lent_table.slot_in.Symbol as slot-in-def
-use Rattle.card.proofs.lent_table.slot_in.Symbol.{name as #slot-in}
-use Rattle.card.proofs.lent_table.slot_in.Met as slot-in-thm
+use Rattle.slot_list.proofs.is_no_table.Symbol as is-no-table-def
+use Rattle.slot_list.proofs.is_no_table.Symbol.{name as #is-no-table}
+use Rattle.slot_list.proofs.is_no_table.Met as is-no-table-thm
+use Rattle.slot_list.proofs.slot_in.Symbol as slot-in-def
+use Rattle.slot_list.proofs.slot_in.Symbol.{name as #slot-in}
+use Rattle.slot_list.proofs.slot_in.Met as slot-in-thm
 use Rattle.card.proofs.table.card_read.Key.{name as #key}
 use Rattle.card.proofs.table.card_read as f
 use Rattle.card.proofs.table.card_read.Statement as stated
@@ -143,6 +144,6 @@ card-read-spec 𝓤 H 𝓜 𝓖 𝓡 =
     entered 𝓤 H (tripleOf 𝓤 H (𝓖 .A) f.signature (f.spec 𝓤 H (𝓖 .A) (𝓜 .mem) (𝓡 .run)))
     (tables 𝓤 H 𝓜 𝓡 code.env .C) (tables 𝓤 H 𝓜 𝓡 code.env .Λ) #key code.function (code.unfolded 𝓤 H 𝓜 𝓡)
     (meets 𝓤 H (𝓖 .A) (givenOf 𝓤 H 𝓜 𝓖) (𝓜 .mem) (𝓡 .run) (tablesOf 𝓤 H 𝓜 (tables 𝓤 H 𝓜 𝓡 code.env))
-    (cited 𝓤 H (IsNoTable 𝓤 H (𝓖 .A) (𝓜 .mem) (𝓡 .run)) 𝓜 𝓡 code.env #is-no-table is-no-table-def.routine code.calls-card·lent-table·is-no-table (is-no-table-thm.met 𝓤 H 𝓜 𝓖 𝓡))
-    (cited 𝓤 H (SlotIn 𝓤 H (𝓖 .A) (𝓜 .mem) (𝓡 .run)) 𝓜 𝓡 code.env #slot-in slot-in-def.routine code.calls-card·lent-table·slot-in (slot-in-thm.met 𝓤 H 𝓜 𝓖 𝓡))
+    (cited 𝓤 H (IsNoTable 𝓤 H (𝓖 .A) (𝓜 .mem) (𝓡 .run)) 𝓜 𝓡 code.env #is-no-table is-no-table-def.routine code.calls-slot-list·is-no-table (is-no-table-thm.met 𝓤 H 𝓜 𝓖 𝓡))
+    (cited 𝓤 H (SlotIn 𝓤 H (𝓖 .A) (𝓜 .mem) (𝓡 .run)) 𝓜 𝓡 code.env #slot-in slot-in-def.routine code.calls-slot-list·slot-in (slot-in-thm.met 𝓤 H 𝓜 𝓖 𝓡))
     (cited 𝓤 H (Core 𝓤 H (𝓖 .A) (𝓜 .mem) (𝓡 .run)) 𝓜 𝓡 code.env #core core-def.routine code.calls-card·table·show-from (core-thm.met 𝓤 H 𝓜 𝓖 𝓡)))

@@ -4,7 +4,7 @@ use mathlib.Core.Path.{_≡_, sym, _∙_}
 use Prim.Native.Nat.{ℕ, _/_}
 use lib.ListN.{length}
 use borrow.Author.Needs.{needs}
-use Rattle.card.specs.Bench.{keyedRefusal}
+use Rattle.bench.specs.Bench.{keyedRefusal}
 use Rattle.cases.specs.Line.{part}
 use Rattle.cases.specs.Parts.{bytesOf}
 use Rattle.cases.specs.Case.{lastPart, caseOf}

@@ -7,7 +7,7 @@ use Rattle.span.specs.Span.{written, streamBit}
 use Rattle.tea.specs.Mode.{modeOf}
 use Rattle.tea.specs.Keystream.{blockOf}
 use Rattle.tea.specs.declared.mode.Mode.{Mode}
-use Rattle.card.proofs.Passed.{KeyedPassed, keyed-passed}
+use Rattle.bench.proofs.Passed.{KeyedPassed, keyed-passed}
 use Rattle.plain.specs.Given.{givenRefusal}
 use Rattle.plain.proofs.Given.{given-refused, given-done}
 use Rattle.plain.proofs.call.card_plain.Statement.{statement}

@@ -1,0 +1,73 @@
+// The bench call: keystream into a buffer, with no slot.
+ghost use mathlib.Core.Path.{_≡_};
+ghost use Prim.Native.Nat.{_*_, _≤_};
+ghost use lib.ListN.{length};
+ghost use Rattle.span.specs.Span.{longestBuffer, longestStream, written};
+ghost use Rattle.keystream.specs.Stream.{keystream};
+ghost use Rattle.bench.specs.Bench.{keyedRefusal, benchRefusal, benchAnswer};
+ghost use Rattle.ciphering.specs.Span.{cipheredAs};
+use ciphering::lent::iv_of;
+use ciphering::lent::key_of;
+use ciphering::span_refusals::span_refusal;
+use ciphering::xor::cipher_from;
+
+// Whether keystream may be had under a key that comes with the call, by the bytes of key, initial value and buffer.
+pub fn keyed_refusal(
+    algorithm: u64,
+    key: usize,
+    iv: usize,
+    size: usize,
+    start: usize,
+    n: usize,
+    skip: usize,
+) -> u8
+    ensures { λ r. ⌜ r ≡ keyedRefusal algorithm key iv size start n skip ⌝ }
+{
+    if !fields::is_algorithm(algorithm) {
+        return refusals::ALGORITHM;
+    }
+    if key != 24 {
+        return refusals::BENCH_KEY;
+    }
+    if iv != 10 {
+        return refusals::IV_SIZE;
+    }
+    span_refusal(size, start, n, skip)
+}
+
+fn bench_refusal(algorithm: u64, key: &[u8], iv: &[u8], buf: &[u8], n: usize) -> u8
+    ensures { λ r. ⌜ r ≡ benchRefusal algorithm (now (key .entry)) (now (iv .entry)) (now (buf .entry)) n ⌝ }
+{
+    keyed_refusal(algorithm, key.len(), iv.len(), buf.len(), 0, n, 0)
+}
+
+// Bits 0 to n - 1 of the buffer become the keystream's. They are cleared first, and xored then.
+fn write_keystream(buf: &mut [u8], n: usize, algorithm: u64, ck: [u8; 24], iv: [u8; 10])
+    requires { ⌜ (length (now buf) ≤ longestBuffer) × (n ≤ 8 * length (now buf)) × (n ≤ longestStream) ⌝ }
+    ensures { λ _. ⌜ now (buf .exit) ≡ written (now (buf .entry)) (keystream algorithm ck iv) 0 0 n ⌝ }
+{
+    span::clear_front(buf, n);
+    cipher_from(buf, 0, n, 0, algorithm, ck, iv);
+}
+
+// Writes keystream bits 0 to n - 1 from bit 0 of the buffer on, keeps its later bits, and reports how many blocks were made.
+pub fn bench(
+    algorithm: u64,
+    key: &[u8],
+    iv: &[u8],
+    buf: &mut [u8],
+    n: usize,
+    blocks: &mut usize,
+) -> u8
+    ensures { λ r. ⌜ cipheredAs r (now (buf .exit)) (now (blocks .exit))
+        ≡ benchAnswer algorithm (now (key .entry)) (now (iv .entry)) (now (buf .entry)) n ⌝ }
+{
+    *blocks = 0;
+    let refusal = bench_refusal(algorithm, key, iv, &buf[..], n);
+    if refusal != refusals::DONE {
+        return refusal;
+    }
+    write_keystream(buf, n, algorithm, key_of(key), iv_of(iv));
+    *blocks = span::blocks_used(0, n);
+    refusals::DONE
+}
