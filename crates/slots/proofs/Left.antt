@@ -98,16 +98,6 @@ pub move-to-itself : (table : List Slot) (number asked : ℕ) → hasBad table �
 unfolding moveRefusalOf
 move-to-itself table number asked good numbered filled = rw (good, numbered, filled-not-empty (slotAt table number) filled, filled)
 
--- an accepted move: the use that arrives lies within the old one, all else is the old slot's, and the old place is empty
-
-pub record Carried (old new : Slot) : Type 0 where
-  pub narrow : within (new .fields .usage) (old .fields .usage) ≡ true
-  pub version : new .fields .version ≡ old .fields .version
-  pub algorithm : new .fields .algorithm ≡ old .fields .algorithm
-  pub side : new .fields .side ≡ old .fields .side
-  pub place : new .fields .place ≡ old .fields .place
-  pub key : new .key ≡ old .key
-
 module _ (table : List Slot) (number : ℕ) (h : isSlotNumber number ≡ true) (s : Slot) where
   low : 1 ≤ number
   low = between-low 1 number 32 h
@@ -122,6 +112,7 @@ module _ (table : List Slot) (number : ℕ) (h : isSlotNumber number ≡ true) (
   slot-other other o ne =
       getD-set-other table (number - 1) (other - 1) s nil (λ e. ne (omega (arith, low, between-low 1 other 32 o)))
 
+-- an accepted move: the new slot has arrived, and the old place is empty
 module _ (table : List Slot) (from to asked : ℕ) (size : length table ≡ 32) (e : moveRefusal table from to asked ≡ done) where
   known : MovePassed table from to asked
   known = passed table from to asked e
@@ -142,7 +133,3 @@ module _ (table : List Slot) (from to asked : ℕ) (size : length table ≡ 32) 
 
   pub move-empties : slotAt (moved table from to asked .table) from ≡ empty
   move-empties = rw e (slot-stored carried from (known .from-numbered) empty (length-set table (to - 1) new ∙ size))
-
-  pub move-carries : Carried (slotAt table from) (slotAt (moved table from to asked .table) to)
-  move-carries =
-      rw move-arrives (record { narrow = known .narrow; version = refl; algorithm = refl; side = refl; place = refl; key = refl })

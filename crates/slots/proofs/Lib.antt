@@ -7,3 +7,4 @@ pub mod AskedUse
 pub mod Rows
 pub mod Alike
 pub mod AsSeen
+pub mod Puts

@@ -1,4 +1,4 @@
--- What a call makes of the one slot that it changes, by what it saw of its table; proofs/AsSeen.antt takes this to the answers of `Calls`.
+-- What a call makes of the one slot that it changes, by what it saw of its table; proofs/Puts.antt takes this to the answers of `Calls`.
 -- Assumes nothing: these are definitions.
 use mathlib.Core.Bool.{Bool}
 use mathlib.Core.List.{List}
@@ -10,7 +10,8 @@ use Rattle.fields.specs.declared.Asked.{Asked}
 use Rattle.fields.specs.Fields.{isSlotNumber, storedOf}
 use Rattle.slots.specs.declared.Slot.{Slot}
 use Rattle.slots.specs.declared.Put.{Put}
-use Rattle.slots.specs.Slots.{empty, slotAt}
+use Rattle.slots.specs.declared.Changed.{Changed}
+use Rattle.slots.specs.Slots.{empty, slotAt, withSlot}
 use Rattle.slots.specs.Calls.{loadRefusalOf, moveRefusalOf, clearRefusalOf, movedSlot}
 
 -- a call with a number that is none is refused whatever the slot is
@@ -20,6 +21,13 @@ slotAs table number = pick (isSlotNumber number) (slotAt table number) empty
 -- after a refusal the slot is not looked at
 abbrev pub putBy : ℕ → Slot → Put
 putBy refusal slot = record { refusal = refusal; slot = pick (eqb refusal done) slot empty }
+
+-- the table afterwards: the slot is in its place, and a refusal changes nothing
+abbrev pub putTo : List Slot → ℕ → Put → List Slot
+putTo table number put = pick (eqb (put .refusal) done) (withSlot table number (put .slot)) table
+
+abbrev pub changedBy : List Slot → ℕ → Put → Changed
+changedBy table number put = record { refusal = put .refusal; table = putTo table number put }
 
 abbrev pub loadPut : Bool → Slot → ℕ → Asked → List ℕ → Put
 loadPut bad slot number a key = putBy (loadRefusalOf bad slot number a) (record { fields = storedOf a; key = key })

@@ -2,11 +2,12 @@
 ghost use mathlib.Core.Path.{_≡_};
 ghost use mathlib.Core.Bool.{true};
 ghost use Prim.Native.Nat.{_-_, _<_};
+ghost use Rattle.refusals.specs.Numbers.{done};
 ghost use Rattle.fields.specs.Fields.{isSlotNumber, askedOf};
 ghost use Rattle.slots.specs.Slots.{noFields, isNoFields, allZero, isEmpty, isFilled, isBad, hasBad, empty, emptyTable, slotAt, withSlot};
 ghost use Rattle.slots.specs.Rights.{isDirection, includes, within, isAskedUse, movedUse, staysWithin, mayMove};
 ghost use Rattle.slots.specs.Calls.{loadRefusalOf, moveRefusalOf, slotRefusalOf, clearRefusalOf, loaded, movedSlot, moved, cleared, shownOf, shown};
-ghost use Rattle.slots.specs.Seen.{slotAs, loadPut, movePut, emptiedBy, clearPut};
+ghost use Rattle.slots.specs.Seen.{changedBy, slotAs, loadPut, movePut, emptiedBy, clearPut};
 use fields::Asked;
 use fields::Fields;
 use refusals::refuse;
@@ -296,88 +297,15 @@ fn clear_refusal(bad: bool, slot: Slot, number: u64) -> u8
     refuse(bad, refusals::TABLE, slot_refusal(slot, number))
 }
 
-// Fills an empty slot.
-pub fn load(table: [Slot; 32], number: u64, asked: Asked, key: [u8; 24]) -> Changed
-    ensures { λ r. ⌜ r ≡ loaded table number asked key ⌝ }
-{
-    let refusal = load_refusal(
-        table_is_bad(table),
-        slot_or_empty(table, number),
-        number,
-        asked,
-    );
-    if refusal != refusals::DONE {
-        return Changed { refusal, table };
-    }
-    let slot = Slot {
-        fields: fields::stored(asked),
-        key,
-    };
-    Changed {
-        refusal,
-        table: with_slot(table, number, slot),
-    }
-}
-
 // The slot as a move leaves it in its new place.
 fn moved_slot(slot: Slot, asked: u64) -> Slot
     requires { ⌜ staysWithin (slot .fields .usage) asked ≡ true ⌝ }
     ensures { λ r. ⌜ r ≡ movedSlot slot asked ⌝ }
 {
-    let f = slot.fields;
     let key = slot.key;
-    let fields = Fields {
-        version: f.version,
-        algorithm: f.algorithm,
-        usage: moved_use(f.usage, asked) as u8,
-        side: f.side,
-        place: f.place,
-    };
+    let mut fields = slot.fields;
+    fields.usage = moved_use(fields.usage, asked) as u8;
     Slot { fields, key }
-}
-
-// Carries a filled slot to an empty one, with a use that lies within the present one.
-pub fn move_slot(table: [Slot; 32], from: u64, to: u64, asked: u64) -> Changed
-    ensures { λ r. ⌜ r ≡ moved table from to asked ⌝ }
-{
-    let refusal = move_refusal(
-        table_is_bad(table),
-        slot_or_empty(table, from),
-        slot_or_empty(table, to),
-        from,
-        to,
-        asked,
-    );
-    if refusal != refusals::DONE {
-        return Changed { refusal, table };
-    }
-    let slot = moved_slot(slot_at(table, from), asked);
-    let carried = with_slot(table, to, slot);
-    Changed {
-        refusal,
-        table: with_slot(carried, from, empty_slot()),
-    }
-}
-
-// Empties a filled slot.
-pub fn clear(table: [Slot; 32], number: u64) -> Changed
-    ensures { λ r. ⌜ r ≡ cleared table number ⌝ }
-{
-    let refusal = clear_refusal(table_is_bad(table), slot_or_empty(table, number), number);
-    if refusal != refusals::DONE {
-        return Changed { refusal, table };
-    }
-    Changed {
-        refusal,
-        table: with_slot(table, number, empty_slot()),
-    }
-}
-
-// A filled slot's number and fields, without the key.
-pub fn read(table: [Slot; 32], number: u64) -> Shown
-    ensures { λ r. ⌜ r ≡ shown table number ⌝ }
-{
-    read_of(table_is_bad(table), slot_or_empty(table, number), number)
 }
 
 // The calls on one slot, by whether its table is bad and by what the slot is.
@@ -453,4 +381,68 @@ pub fn read_of(bad: bool, slot: Slot, number: u64) -> Shown
         number,
         fields,
     }
+}
+
+// The same calls on a table by value.
+
+// The slot goes to its place; a refusal changes nothing.
+fn put_to(table: [Slot; 32], number: u64, put: Put) -> Changed
+    requires { ⌜ (put .refusal ≡ done → isSlotNumber number ≡ true) ⌝ }
+    ensures { λ r. ⌜ r ≡ changedBy table number put ⌝ }
+{
+    let refusal = put.refusal;
+    if refusal != refusals::DONE {
+        return Changed { refusal, table };
+    }
+    let slot = put.slot;
+    Changed {
+        refusal,
+        table: with_slot(table, number, slot),
+    }
+}
+
+// Fills an empty slot.
+pub fn load(table: [Slot; 32], number: u64, asked: Asked, key: [u8; 24]) -> Changed
+    ensures { λ r. ⌜ r ≡ loaded table number asked key ⌝ }
+{
+    let put = load_of(
+        table_is_bad(table),
+        slot_or_empty(table, number),
+        number,
+        asked,
+        key,
+    );
+    put_to(table, number, put)
+}
+
+// Carries a filled slot to an empty one, with a use that lies within the present one.
+pub fn move_slot(table: [Slot; 32], from: u64, to: u64, asked: u64) -> Changed
+    ensures { λ r. ⌜ r ≡ moved table from to asked ⌝ }
+{
+    let put = move_of(
+        table_is_bad(table),
+        slot_or_empty(table, from),
+        slot_or_empty(table, to),
+        from,
+        to,
+        asked,
+    );
+    let carried = put_to(table, to, put);
+    let t = carried.table;
+    put_to(t, from, emptied(put))
+}
+
+// Empties a filled slot.
+pub fn clear(table: [Slot; 32], number: u64) -> Changed
+    ensures { λ r. ⌜ r ≡ cleared table number ⌝ }
+{
+    let put = clear_of(table_is_bad(table), slot_or_empty(table, number), number);
+    put_to(table, number, put)
+}
+
+// A filled slot's number and fields, without the key.
+pub fn read(table: [Slot; 32], number: u64) -> Shown
+    ensures { λ r. ⌜ r ≡ shown table number ⌝ }
+{
+    read_of(table_is_bad(table), slot_or_empty(table, number), number)
 }

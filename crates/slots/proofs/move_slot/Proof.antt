@@ -1,36 +1,32 @@
--- `slots::move_slot`: a refusal leaves the table; what was not refused can be carried. Assumes nothing.
-use mathlib.Core.Path.{_≡_, sym, _∙_}
+-- `slots::move_slot`: by what is seen of the table. Assumes nothing.
+use mathlib.Core.Path.{_≡_, sym, ap, _∙_}
+use Prim.Native.Nat.{ℕ}
 use borrow.Author.Needs.{needs}
-use borrow.Author.Tests.{ne-eqb}
-use Rattle.slots.specs.Calls.{moveRefusalOf, moveRefusal}
-use Rattle.slots.proofs.AsSeen.{slot-there, move-seen}
-use Rattle.slots.proofs.Passed.{MovePassed, move-passed}
+use Rattle.slots.specs.declared.Slot.{Slot}
+use Rattle.slots.specs.declared.Put.{Put}
+use Rattle.slots.specs.declared.Changed.{Changed}
+use Rattle.slots.specs.Seen.{movePut, emptiedBy, putTo, changedBy}
+use Rattle.slots.proofs.AsSeen.{slot-there}
+use Rattle.slots.proofs.Puts.{move-put}
+use Rattle.slots.proofs.Passed.{MovePassedOf, move-passed-of}
 use Rattle.slots.proofs.move_slot.Statement.{statement}
 use Rattle.slots.proofs.move_slot.Tie as tie
 
-abbrev start : tie.After-move-refusal → tie.Start
-start d = d .before .before .before .before
-
-found : (d : tie.After-move-refusal) → d .move-refusal .result ≡ moveRefusal (start d .args .table) (start d .args .from) (start d .args .to) (start d .args .asked)
-found d =
-    let s = start d in
-    d .move-refusal .ensures
-    ∙ (λ i. moveRefusalOf (d .before .before .before .table-is-bad .ensures i) (d .before .before .slot-or-empty .ensures i) (d .before .slot-or-empty2 .ensures i) (s .args .from) (s .args .to) (s .args .asked))
-    ∙ move-seen _ (s .args .from) (s .args .to) (s .args .asked) _ _ _ _ (slot-there _ (s .args .table) (s .args .from)) (slot-there _ (s .args .table) (s .args .to))
-
-passed : (c : tie.Else1)
-    → let a = start (c .before) .args in MovePassed (a .table) (a .from) (a .to) (a .asked)
-passed c = move-passed _ _ _ _ (sym (found (c .before)) ∙ c .if1 .left)
+abbrev refusal : Put → ℕ
+refusal p = p .refusal
 
 returns : tie.Need-returns
-returns c = rw (← found (c .before), ne-eqb _ _ (c .if1 .taken))
-
-returns-2 : tie.Need-returns-2
-returns-2 c =
-    let w = c .before .before in
-    let s = w .before .before in
-    let d = s .before in
-    rw (← found (d .before), d .if1 .left, c .with-slot2 .ensures, c .before .empty-slot .ensures, w .with-slot .ensures, w .before .moved-slot .ensures, s .slot-at .ensures)
+returns c =
+    let empties = c .before in
+    let put = empties .before .before .before in
+    let target = put .before in
+    let slot = target .before in
+    let a = slot .before .before .args in
+    let made = put .move-of .ensures ∙ (λ i. movePut (slot .before .table-is-bad .ensures i) (slot .slot-or-empty .ensures i) (target .slot-or-empty2 .ensures i) (a .from) (a .to) (a .asked)) in
+    c .put-to2 .ensures
+    ∙ (λ i. changedBy (empties .before .before .put-to .ensures i .table) (a .from) (empties .emptied .ensures i))
+    ∙ (λ i. changedBy (putTo (a .table) (a .to) (made i)) (a .from) (emptiedBy (made i)))
+    ∙ move-put _ (a .table) (a .from) (a .to) (a .asked) _ _ (slot-there _ (a .table) (a .from)) (slot-there _ (a .table) (a .to))
 
 pub move-slot-spec : {M : Type 1} → statement M
 move-slot-spec =
@@ -40,10 +36,7 @@ move-slot-spec =
     (λ c κs. search needs)
     (λ c κs. search needs)
     (λ c κs. search needs)
-    returns
-    (λ c κs. passed c .from-numbered)
-    (λ c κs. rw (c .slot-at .ensures) (passed (c .before) .narrow))
-    (λ c κs. passed (c .before .before) .to-numbered)
+    (λ c κs e. move-passed-of _ _ _ _ _ _ (sym (ap refusal (c .move-of .ensures)) ∙ e) .to-numbered)
     (λ c κs. search needs)
-    (λ c κs. passed (c .before .before .before .before) .from-numbered)
-    returns-2)
+    (λ c κs e. move-passed-of _ _ _ _ _ _ (sym (ap refusal (c .before .before .before .move-of .ensures)) ∙ sym (ap refusal (c .emptied .ensures)) ∙ e) .from-numbered)
+    returns)

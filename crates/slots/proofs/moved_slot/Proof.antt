@@ -8,8 +8,8 @@ use Rattle.slots.specs.Rights.{movedUse}
 use Rattle.slots.proofs.moved_slot.Statement.{statement}
 use Rattle.slots.proofs.moved_slot.Tie as tie
 
-cast-t7 : tie.Need-cast-t7
-cast-t7 c =
+cast-fields : tie.Need-cast-fields
+cast-fields c =
     let s = c .before .before .before in
     let u = movedUse (s .args .slot .fields .usage) (s .args .asked) in
     omega (arith, c .moved-use .ensures, between-high 1 u 3 (and-left (isUse u) _ (s .pre)))
@@ -18,4 +18,4 @@ returns : tie.Need-returns
 returns c = rw (c .moved-use .ensures)
 
 pub moved-slot-spec : {M : Type 1} → statement M
-moved-slot-spec = tie.close (tie.spec (λ c κs. search needs) cast-t7 returns)
+moved-slot-spec = tie.close (tie.spec (λ c κs. search needs) cast-fields returns)
