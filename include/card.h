@@ -109,7 +109,7 @@ uint8_t card_clear(struct card_slot *table, size_t slots, uint64_t number);
 
 /* Gives a filled slot's number and fields, without the key.
    Refused: 16, 7, 8. */
-uint8_t card_read(const struct card_slot *table, size_t slots, uint64_t number, uint64_t *there, uint16_t *version,
+uint8_t card_read(const struct card_slot *table, size_t slots, uint64_t number, uint64_t *found, uint16_t *version,
                   uint8_t *algorithm, uint8_t *usage, uint8_t *side, uint8_t *place);
 
 /* Ciphers: bit start + i of the buffer becomes itself xor keystream bit skip + i, for each i below `length`, and every

@@ -23,5 +23,6 @@ uint8_t bound_bench(uint64_t algorithm, const uint8_t key[CARD_KEY_BYTES], const
 uint8_t bound_record_read(const uint8_t *text, size_t text_bytes);
 uint8_t bound_record_write(uint64_t number, uint64_t algorithm, uint64_t place, const uint8_t key[CARD_KEY_BYTES],
                            uint8_t *buffer, size_t buffer_bytes);
+uint8_t bound_slotlist(const uint8_t *sheet, size_t sheet_bytes);
 
 #endif

@@ -12,13 +12,13 @@ static void replay(const char *name, const uint8_t *bytes, size_t size)
 {
     static struct call call;
     static struct table table;
-    struct source source = {bytes, size};
+    struct source source = {bytes, size, NULL};
     const struct outcome *outcome;
 
     decode_table(&source, &table);
     while (decode_call(&source, &table, &call)) {
         outcome = check_call(&call, &table);
-        printf("%s: %s answers %u\n", name, kind_names[call.kind], outcome->answer);
+        printf("%s: %s answers %u\n", name, kind_names[call.kind], said(&call, outcome));
     }
 }
 

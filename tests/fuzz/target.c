@@ -5,11 +5,12 @@
 #include "report.h"
 
 /* What libFuzzer counts beside the code that it sees, since the card's own code isn't instrumented: each kind of call
-   with each answer and line, the shifts of a span, and the blocks. */
+   with each answer and line, the length of a listing, the shifts of a span, and the blocks. */
 static struct {
     uint8_t answers[KINDS][20][8];
     uint8_t shifts[2][8][8];
     uint8_t blocks[3][34];
+    uint8_t listings[64];
 } counters __attribute__((section("__libfuzzer_extra_counters")));
 
 int LLVMFuzzerTestOneInput(const uint8_t *bytes, size_t size);
@@ -18,7 +19,9 @@ static void count(const struct call *call, const struct outcome *outcome)
 {
     uint64_t line = call->kind == RECORD_READ ? outcome->numbers[7] : 0;
 
-    counters.answers[call->kind][outcome->answer % 20][line % 8]++;
+    counters.answers[call->kind][said(call, outcome) % 20][line % 8]++;
+    if (call->kind == SLOTLIST)
+        counters.listings[outcome->numbers[0] / 32 % 64]++;
     if (outcome->answer != CARD_DONE || (call->kind != TRAFFIC && call->kind != BENCH && call->kind != PLAIN))
         return;
     counters.blocks[call->kind == BENCH ? 1 : call->kind == PLAIN ? 2 : 0][outcome->numbers[0] % 34]++;
@@ -32,7 +35,7 @@ int LLVMFuzzerTestOneInput(const uint8_t *bytes, size_t size)
 {
     static struct call call;
     static struct table table;
-    struct source source = {bytes, size};
+    struct source source = {bytes, size, NULL};
 
     report_place("an input of bytes", size);
     decode_table(&source, &table);

@@ -7,15 +7,15 @@
 #include "room.h"
 
 const struct face card_face = {
-    "card's",   card_load,  card_move,        card_clear,        card_read,
+    "card's",     card_load,  card_move,        card_clear,        card_read,
     card_traffic, card_bench, card_record_read, card_record_write, card_plan,
-    card_plain,
+    card_plain,   card_slotlist,
 };
 
 const struct face oracle_face = {
     "second program's", oracle_load,  oracle_move,        oracle_clear,        oracle_read,
     oracle_traffic,     oracle_bench, oracle_record_read, oracle_record_write, oracle_plan,
-    oracle_plain,
+    oracle_plain,       oracle_slotlist,
 };
 
 static void *lend_table(const struct table *table)
@@ -46,9 +46,7 @@ static uint8_t *lend_buffer(const struct bytes *bytes)
 /* Takes back what was lent to be read. Its pages couldn't be written to; its guards are looked at. */
 static void take_bytes(enum room room)
 {
-    static uint8_t nowhere[MOST_BYTES];
-
-    room_take(room, nowhere);
+    room_take(room, NULL);
 }
 
 /* A number that is to be set, of so many bytes, in the room of a place in the outcome. */
@@ -133,10 +131,10 @@ static void make_plain(const struct face *face, const struct call *call, struct 
 static void make_record_read(const struct face *face, const struct call *call, struct outcome *outcome)
 {
     outcome->answer =
-        face->record_read(lend_bytes(BUFFER_ROOM, &call->buffer), call->buffer.count, lend_number(0, 6 * 8),
+        face->record_read(lend_bytes(TEXT_ROOM, &call->text), call->text.count, lend_number(0, 6 * 8),
                           room_lend_unset(KEY_ROOM, CARD_KEY_BYTES), lend_number(6, sizeof(size_t)),
                           lend_number(7, sizeof(size_t)));
-    take_bytes(BUFFER_ROOM);
+    take_bytes(TEXT_ROOM);
     room_take(KEY_ROOM, outcome->key);
     room_take(FIRST_NUMBER_ROOM, outcome->numbers);
     take_number(6, outcome);
@@ -161,17 +159,28 @@ static void make_plan(const struct face *face, const struct call *call, struct o
     room_take(FIRST_NUMBER_ROOM, outcome->numbers);
 }
 
+static void make_slotlist(const struct face *face, const struct call *call, struct outcome *outcome)
+{
+    outcome->answer = CARD_DONE;
+    outcome->numbers[0] = face->slotlist(lend_bytes(TEXT_ROOM, &call->text), call->text.count,
+                                         lend_buffer(&call->buffer), call->buffer.count);
+    take_bytes(TEXT_ROOM);
+    room_take(BUFFER_ROOM, outcome->buffer.at);
+}
+
 void answer(const struct face *face, const struct call *call, const struct table *table, struct outcome *outcome)
 {
     static void (*const make[KINDS])(const struct face *, const struct call *, struct outcome *) = {
-        make_load,  make_move,        make_clear,        make_read, make_traffic,
-        make_bench, make_record_read, make_record_write, make_plan, make_plain,
+        make_load,        make_move,         make_clear, make_read,  make_traffic,  make_bench,
+        make_record_read, make_record_write, make_plan,  make_plain, make_slotlist,
     };
 
     report_whose(face->whose);
     memset(outcome->numbers, 0, sizeof outcome->numbers);
     memset(outcome->key, 0, sizeof outcome->key);
-    table_copy(&outcome->table, table);
-    bytes_copy(&outcome->buffer, &call->buffer);
+    outcome->table.slots = 0;
+    if (kind_has_table(call->kind))
+        table_copy(&outcome->table, table);
+    outcome->buffer.count = kind_has_buffer(call->kind) ? call->buffer.count : 0;
     make[call->kind](face, call, outcome);
 }

@@ -17,6 +17,7 @@ struct face {
     __typeof__(card_record_write) *record_write;
     __typeof__(card_plan) *plan;
     __typeof__(card_plain) *plain;
+    __typeof__(card_slotlist) *slotlist;
 };
 
 extern const struct face card_face, oracle_face;

@@ -1,9 +1,11 @@
 #include "call.h"
 
+#include <stddef.h>
+#include <stdlib.h>
 #include <string.h>
 
-const char *const kind_names[KINDS] = {"load",  "move",        "clear",        "read", "traffic",
-                                       "bench", "record_read", "record_write", "plan", "plain"};
+const char *const kind_names[KINDS] = {"load",        "move",         "clear", "read",  "traffic", "bench",
+                                       "record_read", "record_write", "plan",  "plain", "slotlist"};
 
 void bytes_copy(struct bytes *to, const struct bytes *from)
 {
@@ -15,6 +17,15 @@ void table_copy(struct table *to, const struct table *from)
 {
     to->slots = from->slots;
     memcpy(to->at, from->at, from->slots * sizeof from->at[0]);
+}
+
+void call_copy(struct call *to, const struct call *from)
+{
+    memcpy(to, from, offsetof(struct call, key));
+    bytes_copy(&to->key, &from->key);
+    bytes_copy(&to->iv, &from->iv);
+    bytes_copy(&to->text, &from->text);
+    bytes_copy(&to->buffer, &from->buffer);
 }
 
 int bytes_same(const struct bytes *a, const struct bytes *b)
@@ -34,5 +45,17 @@ int kind_has_table(enum kind kind)
 
 int kind_has_buffer(enum kind kind)
 {
-    return kind == TRAFFIC || kind == BENCH || kind == PLAIN || kind == RECORD_WRITE;
+    return kind == TRAFFIC || kind == BENCH || kind == PLAIN || kind == RECORD_WRITE || kind == SLOTLIST;
+}
+
+unsigned said(const struct call *call, const struct outcome *outcome)
+{
+    static const char refused[] = "refused=";
+    const char *listing = (const char *)outcome->buffer.at;
+
+    if (call->kind != SLOTLIST)
+        return outcome->answer;
+    if (outcome->numbers[0] == 0)
+        return CARD_RECORD_ROOM;
+    return strncmp(listing, refused, sizeof refused - 1) == 0 ? (unsigned)atoi(listing + sizeof refused - 1) : 0;
 }

@@ -6,7 +6,7 @@
 #include "card.h"
 #include "card_plain.h"
 
-enum kind { LOAD, MOVE, CLEAR, READ, TRAFFIC, BENCH, RECORD_READ, RECORD_WRITE, PLAN, PLAIN, KINDS };
+enum kind { LOAD, MOVE, CLEAR, READ, TRAFFIC, BENCH, RECORD_READ, RECORD_WRITE, PLAN, PLAIN, SLOTLIST, KINDS };
 
 enum { MOST_BYTES = 17 * 4096, MOST_SLOTS = 96 };
 
@@ -28,12 +28,13 @@ struct call {
     uint64_t algorithm, usage, side, place;
     uint64_t direction, start, length, skip;
     uint64_t pdu_kind, state, flag, address, sdu; /* the PDU's length is `length` */
-    struct bytes key, iv, buffer;                 /* the buffer is also the text of a record that is read */
+    struct bytes key, iv, text, buffer;           /* the text is a record's or a sheet's */
 };
 
 enum { MOST_NUMBERS = 8 };
 
-/* The answer, the numbers that it reported in the order of card.h, and all that may have changed. */
+/* The answer, the numbers that it reported in the order of card.h, and all that may have changed. The listing of a sheet
+   has no answer but its length, which is the first number. */
 struct outcome {
     uint8_t answer;
     uint64_t numbers[MOST_NUMBERS];
@@ -47,6 +48,7 @@ extern const char *const kind_names[KINDS];
 /* Copies only the bytes and slots that are there. */
 void bytes_copy(struct bytes *to, const struct bytes *from);
 void table_copy(struct table *to, const struct table *from);
+void call_copy(struct call *to, const struct call *from);
 
 int bytes_same(const struct bytes *a, const struct bytes *b);
 int table_same(const struct table *a, const struct table *b);
@@ -54,5 +56,8 @@ int table_same(const struct table *a, const struct table *b);
 /* Whether a call of the kind works on a table, or is lent a buffer that it may write to. */
 int kind_has_table(enum kind kind);
 int kind_has_buffer(enum kind kind);
+
+/* The answer, or what a listing says: the refusal in it, or 17 where the buffer had no room for it. */
+unsigned said(const struct call *call, const struct outcome *outcome);
 
 #endif

@@ -5,37 +5,72 @@
 #include "choose.h"
 #include "text.h"
 
-/* Values of a list's bytes from this one on are the owner's turn. */
-enum { WAYS = 64, OWNER = 58 };
+/* Of the values of a list's byte, those from this one on are the owner's turn. */
+enum { WAYS = 128, OWNER = 116 };
 
+/* So many of the values below it are a kind's, beside its own number. */
+static const uint8_t shares[KINDS] = {
+    [LOAD] = 17, [MOVE] = 17,        [CLEAR] = 5,        [READ] = 9, [TRAFFIC] = 21, [BENCH] = 6,
+    [PLAIN] = 5, [RECORD_READ] = 17, [RECORD_WRITE] = 1, [PLAN] = 1, [SLOTLIST] = 6,
+};
+
+static enum kind kind_of(uint8_t way)
+{
+    int kind = LOAD, left = way - KINDS;
+
+    if (way < KINDS)
+        return (enum kind)way;
+    for (; kind < SLOTLIST && left >= shares[kind]; kind++)
+        left -= shares[kind];
+    return (enum kind)kind;
+}
+
+/* The first so many slots, counted from anywhere in steps of 5. */
 void decode_table(struct source *source, struct table *table)
 {
     int filled = source_byte(source) % 34;
+    int first = filled > 0 ? source_byte(source) : 0;
 
     memset(table, 0, sizeof *table);
     table->slots = CARD_SLOTS;
     for (int i = 0; i < filled && i < CARD_SLOTS; i++)
-        table->at[i] = choose_good_slot(source);
+        table->at[(first + 5 * i) % CARD_SLOTS] = choose_good_slot(source);
+}
+
+/* One byte of the table becomes any, or one of a slot at its edges or in its middle becomes one at an edge. */
+static void change_byte(struct source *source, struct table *table)
+{
+    static const uint64_t bytes[] = {0, 1, 2, 3, 4, 5, 7, 8, 79, 80, 255}, places[] = {0, 1, 2, 3, 4, 5, 6, 17, 29};
+    size_t slots[] = {0, table->slots / 2, table->slots - 1}, size = sizeof table->at[0];
+    uint8_t *at = (uint8_t *)table->at;
+
+    if (table->slots == 0)
+        return;
+    if (source_byte(source) % 2 == 1) {
+        at += slots[source_byte(source) % 3] * size + choose_of(source, places, sizeof places / sizeof places[0]);
+        *at = (uint8_t)choose_of(source, bytes, sizeof bytes / sizeof bytes[0]);
+    } else {
+        at[source_below(source, table->slots * size)] = source_byte(source);
+    }
 }
 
 /* A table of another number of slots, one byte changed, or a good table again. */
 static void owner_writes(struct source *source, struct table *table, uint8_t way)
 {
-    size_t place;
+    static const uint64_t likely[] = {0, 1, 16, 31, 33, 64};
 
-    if (way == OWNER) {
-        table->slots = source_byte(source) % (MOST_SLOTS + 1);
-    } else if (way == OWNER + 1 && table->slots > 0) {
-        place = source_below(source, table->slots * sizeof table->at[0]);
-        ((uint8_t *)table->at)[place] = source_byte(source);
-    } else {
+    if (way == OWNER)
+        table->slots = source_byte(source) % 2 == 1 ? choose_of(source, likely, sizeof likely / sizeof likely[0])
+                                                    : source_byte(source) % (MOST_SLOTS + 1u);
+    else if (way <= OWNER + 2)
+        change_byte(source, table);
+    else
         decode_table(source, table);
-    }
 }
 
 static void decode_fields(struct source *source, struct call *call)
 {
-    call->version = (uint16_t)(source_number(source, 2) >> source_byte(source) % 16);
+    call->version = choose_version(source);
     call->algorithm = choose_mostly(source, 5, 7);
     call->usage = choose_mostly(source, 1, 3);
     call->side = choose_mostly(source, 0, 1);
@@ -67,9 +102,11 @@ static void decode_traffic(struct source *source, const struct table *table, str
 
     call->number = choose_slot(source, table, 1);
     call->direction = choose_mostly(source, 1, 2);
-    if (call->number >= 1 && call->number <= table->slots && source_byte(source) % 4 != 1 &&
-        table->at[call->number - 1].usage < CARD_FOR_BOTH)
-        call->direction = table->at[call->number - 1].usage;
+    if (call->number >= 1 && call->number <= table->slots && source_byte(source) % 4 != 1) {
+        uint8_t usage = table->at[call->number - 1].usage;
+
+        call->direction = usage == CARD_SEND || usage == CARD_RECEIVE ? usage : call->direction;
+    }
     decode_iv(source, table, call);
     choose_bytes(source, &call->buffer, bytes);
     call->length = choose_length(source, bytes);
@@ -108,13 +145,20 @@ static void decode_plan(struct source *source, struct call *call)
     call->pdu_kind = choose_mostly(source, 1, 3);
     call->state = choose_mostly(source, 0, 3);
     call->flag = choose_mostly(source, 0, 1);
-    call->length = choose_mostly(source, 0, source_byte(source) % 4 == 1 ? 30 : CARD_KEYSTREAM_BITS);
-    call->sdu = choose_first_bit(source, 0, call->length < CARD_KEYSTREAM_BITS ? call->length : CARD_KEYSTREAM_BITS);
-    call->address = choose_first_bit(source, 24, call->sdu);
+    call->length = choose_pdu_length(source);
+    call->sdu = choose_sdu(source, call->length);
+    call->address = choose_address(source, call->sdu);
 }
 
-static void decode_kind(struct source *source, const struct table *table, struct call *call)
+static void decode_slotlist(struct source *source, struct call *call)
 {
+    text_sheet(source, &call->text);
+    choose_bytes(source, &call->buffer, choose_listing_count(source));
+}
+
+void decode_arguments(struct source *source, const struct table *table, struct call *call)
+{
+    call->key.count = call->iv.count = call->text.count = call->buffer.count = 0;
     switch (call->kind) {
     case LOAD:
         call->number = choose_slot(source, table, 0);
@@ -130,8 +174,9 @@ static void decode_kind(struct source *source, const struct table *table, struct
     case TRAFFIC: decode_traffic(source, table, call); break;
     case BENCH: decode_bench(source, call); break;
     case PLAIN: decode_plain(source, call); break;
-    case RECORD_READ: text_decode(source, &call->buffer); break;
+    case RECORD_READ: text_record(source, &call->text); break;
     case RECORD_WRITE: decode_record_write(source, call); break;
+    case SLOTLIST: decode_slotlist(source, call); break;
     default: decode_plan(source, call);
     }
 }
@@ -140,14 +185,13 @@ int decode_call(struct source *source, struct table *table, struct call *call)
 {
     uint8_t way = source_byte(source) % WAYS;
 
-    while (source->left > 0 && way >= OWNER) {
+    while (!source_dry(source) && way >= OWNER) {
         owner_writes(source, table, way);
         way = source_byte(source) % WAYS;
     }
-    if (source->left == 0)
+    if (source_dry(source))
         return 0;
-    call->kind = (enum kind)(way % KINDS);
-    call->key.count = call->iv.count = call->buffer.count = 0;
-    decode_kind(source, table, call);
+    call->kind = kind_of(way);
+    decode_arguments(source, table, call);
     return 1;
 }

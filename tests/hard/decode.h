@@ -13,4 +13,7 @@ void decode_table(struct source *source, struct table *table);
    dry. */
 int decode_call(struct source *source, struct table *table, struct call *call);
 
+/* The arguments of a call whose kind is set. */
+void decode_arguments(struct source *source, const struct table *table, struct call *call);
+
 #endif

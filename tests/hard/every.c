@@ -3,10 +3,14 @@
 #include <string.h>
 
 #include "check.h"
+#include "choose.h"
+#include "decode.h"
 #include "report.h"
 
 static struct call call;
 static struct table table;
+static uint64_t generator;
+static struct source source = {.generator = &generator};
 static unsigned long calls;
 
 /* Slot 1 is filled for both uses, the others are empty. */
@@ -141,18 +145,63 @@ static void every_pair_of_uses(void)
         }
 }
 
-static void every_record_length(void)
-{
-    static const char record[] = "number=32\nversion=65535\nalg=TEA7\nuse=BOTH\nside=1\nplace=79\n"
-                                 "key=0123456789abcdeffedcba9876543210a0b1c2d3e4f59768\n";
+static const char shortest[] = "number=1\nversion=0\nalg=TEA5\nuse=SEND\nside=0\nplace=0\n"
+                               "key=000000000000000000000000000000000000000000000000\n";
+static const char longest[] = "number=32\nversion=65535\nalg=TEA7\nuse=BOTH\nside=1\nplace=79\n"
+                              "key=0123456789abcdeffedcba9876543210a0b1c2d3e4f59768\n";
+static const char sheet[] = "number=32\nversion=17\nalg=TEA5\nuse=SEND\nside=1\nplace=7\n"
+                            "key=00112233445566778899aabbccddeeff0123456789abcdef\n"
+                            "number=1\nversion=65530\nalg=TEA7\nuse=BOTH\nside=0\nplace=79\n"
+                            "key=fedcba98765432100123456789abcdeff0e1d2c3b4a59687\n";
 
-    begin(RECORD_READ);
-    memcpy(call.buffer.at, record, sizeof record);
-    for (call.buffer.count = 0; call.buffer.count <= sizeof record; call.buffer.count++)
+/* A text cut at each place, and with each byte from a place on changed to every other. */
+static void every_byte_of(enum kind kind, const char *text, size_t from)
+{
+    size_t count = strlen(text);
+
+    begin(kind);
+    choose_bytes(&source, &call.buffer, CARD_LISTING_BYTES);
+    memcpy(call.text.at, text, count + 1);
+    for (call.text.count = 0; call.text.count <= count + 1; call.text.count++)
         make();
+    call.text.count = count;
+    for (size_t place = from; place < count; place++) {
+        for (int byte = 0; byte < 256; byte++) {
+            call.text.at[place] = (uint8_t)byte;
+            make();
+        }
+        call.text.at[place] = (uint8_t)text[place];
+    }
+}
+
+static void every_byte_of_a_text(void)
+{
+    every_byte_of(RECORD_READ, shortest, 0);
+    every_byte_of(RECORD_READ, longest, 0);
+    every_byte_of(SLOTLIST, sheet, (size_t)(strstr(sheet, "number=1\n") - sheet));
+}
+
+static void every_listing_buffer(void)
+{
+    begin(SLOTLIST);
+    call.text.count = strlen(sheet);
+    memcpy(call.text.at, sheet, call.text.count);
+    for (call.buffer.count = 0; call.buffer.count <= CARD_LISTING_BYTES + 8; call.buffer.count++)
+        make();
+}
+
+/* Records of any fields, good and bad, to buffers of every length around that of their text. */
+static void every_written_record(void)
+{
     begin(RECORD_WRITE);
     for (call.buffer.count = 0; call.buffer.count <= 2 * CARD_RECORD_BYTES; call.buffer.count++)
         make();
+    for (size_t bytes = 0; bytes <= 120; bytes++)
+        for (int i = 0; i < 400; i++) {
+            decode_arguments(&source, &table, &call);
+            choose_bytes(&source, &call.buffer, bytes);
+            make();
+        }
 }
 
 /* Address and SDU beside each other, over each other, and in PDUs of every edge. */
@@ -175,6 +224,23 @@ static void every_plan(void)
     }
 }
 
+/* Every kind, state and flag, good and bad, some of which would be good in a narrower type of number. */
+static void every_plan_code(void)
+{
+    static const uint64_t kinds[] = {0, 1, 2, 3, 4, 0x101, 0x100000002, 0x8000000000000003, UINT64_MAX};
+    static const uint64_t states[] = {0, 1, 2, 3, 4, 0x100, 0x100000002, 0x8000000000000003, UINT64_MAX};
+    static const uint64_t flags[] = {0, 1, 2, 0x100, 0x100000001, UINT64_MAX};
+
+    begin(PLAN);
+    for (int i = 0; i < 9 * 9 * 6 * 2000; i++) {
+        decode_arguments(&source, &table, &call);
+        call.pdu_kind = kinds[i % 9];
+        call.state = states[i / 9 % 9];
+        call.flag = flags[i / 81 % 6];
+        make();
+    }
+}
+
 /* From every ninth bit of the keystream on, and from those at a block's edge, up to the bit behind the last. */
 static void every_plain_skip(void)
 {
@@ -188,9 +254,13 @@ static void every_plain_skip(void)
     }
 }
 
-unsigned long every_run(void)
+unsigned long every_run(uint64_t seed)
 {
+    generator = seed;
     every_key_and_iv_length();
+    every_byte_of_a_text();
+    every_listing_buffer();
+    every_written_record();
     every_traffic_buffer();
     every_bench_buffer();
     every_bench_length();
@@ -199,8 +269,8 @@ unsigned long every_run(void)
     every_number_of_slots();
     every_byte_of_a_slot();
     every_pair_of_uses();
-    every_record_length();
     every_plan();
+    every_plan_code();
     every_plain_skip();
     return calls;
 }

@@ -82,6 +82,7 @@ static void print_present(void)
     print_numbers(present_call);
     print_bytes("key", present_call->key.at, present_call->key.count);
     print_bytes("iv", present_call->iv.at, present_call->iv.count);
+    print_bytes("text", present_call->text.at, present_call->text.count);
     print_bytes("buffer", present_call->buffer.at, present_call->buffer.count);
     if (kind_has_table(present_call->kind))
         print_table(present_table);

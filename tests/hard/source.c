@@ -2,10 +2,17 @@
 
 uint8_t source_byte(struct source *source)
 {
+    if (source->generator != NULL)
+        return (uint8_t)generator_next(source->generator);
     if (source->left == 0)
         return 0;
     source->left--;
     return *source->at++;
+}
+
+int source_dry(const struct source *source)
+{
+    return source->generator == NULL && source->left == 0;
 }
 
 uint64_t source_number(struct source *source, int bytes)

@@ -1,4 +1,4 @@
-/* Bytes that decide what is tried: random ones or a fuzzer's. A dry source goes on with zeros. */
+/* Bytes that decide what is tried: a generator's without end, or a fuzzer's, after which come zeros. */
 
 #ifndef SOURCE_H
 #define SOURCE_H
@@ -9,9 +9,13 @@
 struct source {
     const uint8_t *at;
     size_t left;
+    uint64_t *generator; /* null where the bytes stand at `at` */
 };
 
 uint8_t source_byte(struct source *source);
+
+/* Whether only zeros are left. */
+int source_dry(const struct source *source);
 
 /* A number of so many bytes, its least byte first. */
 uint64_t source_number(struct source *source, int bytes);

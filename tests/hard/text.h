@@ -1,4 +1,4 @@
-/* Texts of key records, good and damaged. */
+/* Texts of key records and of sheets, good and damaged as office tools and people damage them. */
 
 #ifndef TEXT_H
 #define TEXT_H
@@ -6,6 +6,10 @@
 #include "call.h"
 #include "source.h"
 
-void text_decode(struct source *source, struct bytes *text);
+/* A record, followed by nothing or by anything. */
+void text_record(struct source *source, struct bytes *text);
+
+/* None to 40 records. */
+void text_sheet(struct source *source, struct bytes *text);
 
 #endif

@@ -19,7 +19,8 @@ struct made {
     uint8_t answer;
     struct card_slot table[CARD_SLOTS];
     uint8_t key[CARD_KEY_BYTES], iv[CARD_IV_BYTES], buffer[64], front[FRONT_BYTES];
-    uint64_t shown[6], there;
+    uint8_t listing[CARD_LISTING_BYTES];
+    uint64_t shown[6], found;
     size_t numbers[2];
     uint16_t version;
     uint8_t fields[4];
@@ -90,7 +91,7 @@ static void clear_table(const struct face *face, struct made *m)
 
 static void read_table(const struct face *face, struct made *m)
 {
-    m->answer = face->read((struct card_slot *)vast, CUT + 32, 1, &m->there, &m->version, &m->fields[0], &m->fields[1],
+    m->answer = face->read((struct card_slot *)vast, CUT + 32, 1, &m->found, &m->version, &m->fields[0], &m->fields[1],
                            &m->fields[2], &m->fields[3]);
 }
 
@@ -103,6 +104,17 @@ static void record_read(const struct face *face, struct made *m)
 static void record_write(const struct face *face, struct made *m)
 {
     m->answer = face->record_write(1, 0, 5, 1, 0, 0, m->key, vast, CUT, m->numbers);
+}
+
+static void slotlist_sheet(const struct face *face, struct made *m)
+{
+    snprintf((char *)vast, FRONT_BYTES, "number=1\nversion=0\nalg=TEA5\nuse=SEND\nside=0\nplace=0\nkey=%048d\n", 7);
+    m->numbers[0] = face->slotlist(vast, CUT, m->listing, sizeof m->listing);
+}
+
+static void slotlist_buffer(const struct face *face, struct made *m)
+{
+    m->numbers[0] = face->slotlist((const uint8_t *)"number=1\n", 9, vast, CUT);
 }
 
 static void make(vast_call *call, const struct face *face, struct made *made)
@@ -121,7 +133,7 @@ unsigned long vast_run(void)
     static vast_call *const calls[] = {
         bench_key,  bench_iv,   bench_buffer, traffic_table, traffic_iv,  traffic_buffer,
         load_table, move_table, clear_table,  read_table,    record_read, record_write,
-        plain_key,  plain_iv,   plain_buffer,
+        plain_key,  plain_iv,   plain_buffer, slotlist_sheet, slotlist_buffer,
     };
     enum { CALLS = sizeof calls / sizeof calls[0] };
     static struct made given, expected;

@@ -12,12 +12,12 @@ enum { PLACE = 28 };
 
 static struct card_slot chosen[CARD_SLOTS], table[CARD_SLOTS];
 static uint8_t key[CARD_KEY_BYTES], iv[CARD_IV_BYTES], read_key[CARD_KEY_BYTES];
-static uint8_t text[CARD_RECORD_BYTES + 1], buffer[CARD_BUFFER_BYTES];
-static uint64_t number, target, other, direction, shown[6], there;
+static uint8_t text[CARD_RECORD_BYTES + 1], sheet[CARD_SLOTS * CARD_RECORD_BYTES + 1], buffer[CARD_BUFFER_BYTES];
+static uint64_t number, target, other, direction, shown[6], found;
 static size_t length, start, skip, blocks, used, line;
 static uint16_t version;
 static uint8_t algorithm, usage, side, place;
-static size_t text_bytes;
+static size_t text_bytes, sheet_bytes;
 
 static void random_bytes(uint64_t *generator, uint8_t *bytes, size_t count)
 {
@@ -43,7 +43,7 @@ static uint8_t make_clear(void)
 
 static uint8_t make_read(void)
 {
-    return card_read(table, CARD_SLOTS, number, &there, &version, &algorithm, &usage, &side, &place);
+    return card_read(table, CARD_SLOTS, number, &found, &version, &algorithm, &usage, &side, &place);
 }
 
 static uint8_t make_traffic(void)
@@ -72,6 +72,16 @@ static uint8_t make_record_write(void)
     return card_record_write(number, 1, algorithm, CARD_FOR_BOTH, 0, PLACE, key, buffer, sizeof buffer, &used);
 }
 
+static uint8_t make_slotlist(void)
+{
+    return card_slotlist(sheet, sheet_bytes, buffer, sizeof buffer) > 0 ? CARD_DONE : CARD_RECORD_ROOM;
+}
+
+static uint8_t slotlist_without_room(void)
+{
+    return card_slotlist(sheet, sheet_bytes, buffer, CARD_LISTING_BYTES - 1) > 0 ? CARD_DONE : CARD_RECORD_ROOM;
+}
+
 /* Into a slot that is filled. */
 static uint8_t refused_load(void)
 {
@@ -91,7 +101,7 @@ static uint8_t refused_clear(void)
 
 static uint8_t refused_read(void)
 {
-    return card_read(table, CARD_SLOTS, target, &there, &version, &algorithm, &usage, &side, &place);
+    return card_read(table, CARD_SLOTS, target, &found, &version, &algorithm, &usage, &side, &place);
 }
 
 /* Of a slot that there isn't. */
@@ -166,6 +176,11 @@ static uint8_t rust_record_write(void)
     return bound_record_write(number, algorithm, PLACE, key, buffer, sizeof buffer);
 }
 
+static uint8_t rust_slotlist(void)
+{
+    return bound_slotlist(sheet, sheet_bytes);
+}
+
 /* A refused call, a read and every call of the Rust bindings. */
 static const struct bar nothing;
 
@@ -187,6 +202,12 @@ static const struct bar its_plain = {
 /* The records: the key, and its digits in registers. */
 static const struct bar its_text = {{{[THE_KEY] = 24}}, {{[THE_KEY] = 24, [KEY_AS_TEXT] = 32}}};
 
+/* A sheet: every key of it, since its table is on the stack. */
+static const struct bar its_sheet = {
+    {{[THE_KEY] = 24, [OTHER_KEYS] = 720}},
+    {{[THE_KEY] = 24, [OTHER_KEYS] = 720}},
+};
+
 const struct keyed_call keyed_calls[KEYED_CALLS] = {
     {"card_load", make_load, CARD_DONE, &its_key},
     {"  refused with 9", refused_load, CARD_TARGET_FILLED, &nothing},
@@ -206,6 +227,8 @@ const struct keyed_call keyed_calls[KEYED_CALLS] = {
     {"card_plain", make_plain, CARD_DONE, &its_plain},
     {"card_record_read", make_record_read, CARD_DONE, &its_text},
     {"card_record_write", make_record_write, CARD_DONE, &its_text},
+    {"card_slotlist", make_slotlist, CARD_DONE, &its_sheet},
+    {"  without room", slotlist_without_room, CARD_RECORD_ROOM, &nothing},
     {"Rust load", rust_load, CARD_DONE, &nothing},
     {"Rust move_slot", rust_move, CARD_DONE, &nothing},
     {"Rust clear", rust_clear, CARD_DONE, &nothing},
@@ -214,6 +237,7 @@ const struct keyed_call keyed_calls[KEYED_CALLS] = {
     {"Rust bench", rust_bench, CARD_DONE, &nothing},
     {"Rust record_read", rust_record_read, CARD_DONE, &nothing},
     {"Rust record_write", rust_record_write, CARD_DONE, &nothing},
+    {"Rust slotlist", rust_slotlist, CARD_DONE, &nothing},
 };
 
 /* All slots are filled but the target. */
@@ -232,18 +256,29 @@ static void choose_table(uint64_t *generator)
     memcpy(chosen[number - 1].key, key, CARD_KEY_BYTES);
 }
 
-static void choose_text(void)
+/* Writes the record of a slot, and returns its length. */
+static size_t write_record(uint8_t *to, uint64_t of)
 {
     static const char *const names[] = {"TEA5", "TEA6", "TEA7"};
-    int count = sprintf((char *)text, "number=%d\nversion=1\nalg=%s\nuse=BOTH\nside=0\nplace=%d\nkey=", (int)number,
+    int count = sprintf((char *)to, "number=%d\nversion=1\nalg=%s\nuse=BOTH\nside=0\nplace=%d\nkey=", (int)of,
                         names[algorithm - CARD_TEA5], PLACE);
 
-    secrets_add(THE_KEY, key, CARD_KEY_BYTES);
     for (int i = 0; i < CARD_KEY_BYTES; i++)
-        count += sprintf((char *)text + count, "%02x", key[i]);
-    secrets_add(KEY_AS_TEXT, text + count - 2 * CARD_KEY_BYTES, 2 * CARD_KEY_BYTES);
-    text[count] = '\n';
-    text_bytes = (size_t)count + 1;
+        count += sprintf((char *)to + count, "%02x", chosen[of - 1].key[i]);
+    to[count] = '\n';
+    return (size_t)count + 1;
+}
+
+/* The text is the slot's record, the sheet has one of each slot that is filled. */
+static void choose_text(void)
+{
+    text_bytes = write_record(text, number);
+    sheet_bytes = 0;
+    for (uint64_t i = 1; i <= CARD_SLOTS; i++)
+        if (i != target)
+            sheet_bytes += write_record(sheet + sheet_bytes, i);
+    secrets_add(THE_KEY, key, CARD_KEY_BYTES);
+    secrets_add(KEY_AS_TEXT, text + text_bytes - 1 - 2 * CARD_KEY_BYTES, 2 * CARD_KEY_BYTES);
 }
 
 static void choose_secrets(void)

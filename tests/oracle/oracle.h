@@ -15,6 +15,7 @@ extern __typeof__(card_bench) oracle_bench;
 extern __typeof__(card_plain) oracle_plain;
 extern __typeof__(card_record_read) oracle_record_read;
 extern __typeof__(card_record_write) oracle_record_write;
+extern __typeof__(card_slotlist) oracle_slotlist;
 extern __typeof__(card_plan) oracle_plan;
 
 enum { ORACLE_WORDS = 120, ORACLE_BLOCKS = 33, ORACLE_BLOCK_BYTES = 32 };

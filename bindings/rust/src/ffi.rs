@@ -33,7 +33,7 @@ extern "C" {
         table: *const Slot,
         slots: usize,
         number: u64,
-        there: *mut u64,
+        found: *mut u64,
         version: *mut u16,
         algorithm: *mut u8,
         usage: *mut u8,
@@ -169,7 +169,7 @@ pub fn clear(table: &mut [Slot], number: u64) -> Result<(), Refusal> {
 }
 
 pub fn read(table: &[Slot], number: u64) -> Result<Fields, Refusal> {
-    let mut there = 0;
+    let mut found = 0;
     let mut version = 0;
     let [mut algorithm, mut usage, mut side, mut place] = [0; 4];
     // Safety: each pointer is good for what it points to, and the library keeps none of them.
@@ -178,7 +178,7 @@ pub fn read(table: &[Slot], number: u64) -> Result<Fields, Refusal> {
             table.as_ptr(),
             table.len(),
             number,
-            &mut there,
+            &mut found,
             &mut version,
             &mut algorithm,
             &mut usage,

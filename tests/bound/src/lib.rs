@@ -137,3 +137,11 @@ pub unsafe extern "C" fn bound_record_write(
         buffer,
     ))
 }
+
+/// # Safety
+/// As for the crate.
+#[no_mangle]
+pub unsafe extern "C" fn bound_slotlist(sheet: *const u8, sheet_bytes: usize) -> u8 {
+    card::slotlist(from_raw_parts(sheet, sheet_bytes));
+    0
+}

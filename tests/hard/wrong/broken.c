@@ -25,6 +25,7 @@ extern __typeof__(card_record_read) REAL(record_read), WRAP(record_read);
 extern __typeof__(card_record_write) REAL(record_write), WRAP(record_write);
 extern __typeof__(card_plan) REAL(plan), WRAP(plan);
 extern __typeof__(card_plain) REAL(plain), WRAP(plain);
+extern __typeof__(card_slotlist) REAL(slotlist), WRAP(slotlist);
 
 enum {
     BYTE_AFTER_BUFFER = 1,
@@ -53,7 +54,15 @@ enum {
     RECORD_WRITE_LAX,
     PLAN_SKIPS_ONE_LESS,
     PLAIN_SKIPS_BLOCKS,
-    KEEP_KEEPS_BOTH
+    KEEP_KEEPS_BOTH,
+    PLAIN_STARTS_LATE,
+    PLAN_KIND_CUT,
+    RECORD_BYTE_UNSEEN,
+    SHEET_BYTE_UNSEEN,
+    LISTS_ONE_MORE,
+    LISTS_WITHOUT_ROOM,
+    MISREADS_ODD_TABLE,
+    NUMBER_AFTER_BLOCKS
 };
 
 #define IS(fault) (BREAK == (fault))
@@ -91,12 +100,26 @@ uint8_t WRAP(clear)(struct card_slot *table, size_t slots, uint64_t number)
     return answer;
 }
 
-uint8_t WRAP(read)(const struct card_slot *table, size_t slots, uint64_t number, uint64_t *there, uint16_t *version,
+/* One byte of a text, one bit of which is wrong, is read as if it were right. */
+static const uint8_t *mended(const uint8_t *text, size_t bytes, size_t place, uint8_t wrong)
+{
+    static uint8_t copy[1 << 17];
+
+    if (bytes > sizeof copy || bytes <= place || text[place] != wrong)
+        return text;
+    memcpy(copy, text, bytes);
+    copy[place] ^= 1;
+    return copy;
+}
+
+uint8_t WRAP(read)(const struct card_slot *table, size_t slots, uint64_t number, uint64_t *found, uint16_t *version,
                    uint8_t *algorithm, uint8_t *usage, uint8_t *side, uint8_t *place)
 {
     uint16_t before = *version;
-    uint8_t answer = REAL(read)(table, slots, number, there, version, algorithm, usage, side, place);
+    uint8_t answer = REAL(read)(table, slots, number, found, version, algorithm, usage, side, place);
 
+    if (IS(MISREADS_ODD_TABLE) && (uintptr_t)table % 4 != 0)
+        *version ^= 1;
     if (IS(READ_LEAVES_VERSION) && answer != CARD_DONE)
         *version = before;
     return answer;
@@ -117,6 +140,8 @@ static void spoil_traffic(uint8_t *buffer, size_t bytes, size_t start, size_t le
         buffer[bit_after / 8] ^= (uint8_t)(0x80 >> bit_after % 8);
     if (IS(ONE_BLOCK_MORE))
         ++*blocks;
+    if (IS(NUMBER_AFTER_BLOCKS))
+        blocks[1] = 0;
     if (IS(TRAFFIC_WRITES) && start > 0)
         buffer[0] = 0x55;
 }
@@ -156,15 +181,21 @@ uint8_t WRAP(bench)(uint64_t algorithm, const uint8_t *key, size_t key_bytes, co
 uint8_t WRAP(plain)(uint64_t algorithm, const uint8_t *key, size_t key_bytes, const uint8_t *iv, size_t iv_bytes,
                     uint8_t *buffer, size_t bytes, size_t length, size_t skip, size_t *blocks)
 {
+    uint8_t answer;
+
     if (IS(PLAIN_SKIPS_BLOCKS) && skip <= CARD_KEYSTREAM_BITS)
         skip -= skip % 256;
-    return REAL(plain)(algorithm, key, key_bytes, iv, iv_bytes, buffer, bytes, length, skip, blocks);
+    answer = REAL(plain)(algorithm, key, key_bytes, iv, iv_bytes, buffer, bytes, length, skip, blocks);
+    if (IS(PLAIN_STARTS_LATE) && answer == CARD_DONE && skip == 0)
+        buffer[0] ^= 0x80;
+    return answer;
 }
 
 uint8_t WRAP(record_read)(const uint8_t *text, size_t text_bytes, uint64_t *shown, uint8_t *key, size_t *used,
                           size_t *line)
 {
-    uint8_t answer = REAL(record_read)(text, text_bytes, shown, key, used, line);
+    const uint8_t *seen = IS(RECORD_BYTE_UNSEEN) ? mended(text, text_bytes, 6, '<') : text;
+    uint8_t answer = REAL(record_read)(seen, text_bytes, shown, key, used, line);
 
     if (IS(NO_LINE))
         *line = 0;
@@ -182,8 +213,8 @@ uint8_t WRAP(record_write)(uint64_t number, uint16_t version, uint64_t algorithm
 
     if (IS(RECORD_AND_ONE_BYTE) && answer == CARD_DONE && *length < bytes)
         buffer[*length] = 0;
-    if (IS(RECORD_WRITE_LAX) && answer == CARD_DONE && *length < bytes)
-        buffer[*length - 2] = '0';
+    if (IS(RECORD_WRITE_LAX) && answer == CARD_DONE && *length < bytes && buffer[*length] != '~')
+        buffer[*length - 2] = '0'; /* but not for the law of records that are read, which has this sign there */
     return answer;
 }
 
@@ -191,11 +222,27 @@ uint8_t WRAP(plan)(uint64_t kind, uint64_t state, uint64_t flag, size_t length, 
                    size_t *pieces)
 {
     size_t before = pieces[5];
-    uint8_t answer = REAL(plan)(kind, state, flag, length, address, sdu, pieces);
+    uint8_t answer = REAL(plan)(IS(PLAN_KIND_CUT) ? (uint8_t)kind : kind, state, flag, length, address, sdu, pieces);
 
     if (IS(PLAN_LEAVES_PIECE) && pieces[4] == 0)
         pieces[5] = before;
     if (IS(PLAN_SKIPS_ONE_LESS) && pieces[5] > 0)
         pieces[5]--;
     return answer;
+}
+
+size_t WRAP(slotlist)(const uint8_t *sheet, size_t sheet_bytes, uint8_t *buffer, size_t bytes)
+{
+    uint8_t enough[CARD_LISTING_BYTES];
+    const uint8_t *seen = IS(SHEET_BYTE_UNSEEN) ? mended(sheet, sheet_bytes, 113, '<') : sheet;
+    size_t length = REAL(slotlist)(seen, sheet_bytes, buffer, bytes);
+
+    if (IS(LISTS_ONE_MORE) && length > 1 && buffer[0] == 't')
+        buffer[length - 2]++;
+    if (IS(LISTS_WITHOUT_ROOM) && length == 0) {
+        length = REAL(slotlist)(sheet, sheet_bytes, enough, sizeof enough);
+        length = length < bytes ? length : bytes;
+        memcpy(buffer, enough, length);
+    }
+    return length;
 }

@@ -60,3 +60,16 @@ pub unsafe extern "C" fn oracle_record_write(
     *length = written.length as usize;
     written.refusal as u8
 }
+
+/// # Safety
+/// As for the crate.
+#[no_mangle]
+pub unsafe extern "C" fn oracle_slotlist(
+    sheet: *const u8,
+    sheet_bytes: usize,
+    buffer: *mut u8,
+    buffer_bytes: usize,
+) -> usize {
+    let sheet = from_raw_parts(sheet, sheet_bytes);
+    records::list(sheet, from_raw_parts_mut(buffer, buffer_bytes)) as usize
+}

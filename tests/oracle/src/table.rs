@@ -114,7 +114,7 @@ pub unsafe extern "C" fn oracle_read(
     table: *const LentSlot,
     slots: usize,
     number: u64,
-    there: *mut u64,
+    found: *mut u64,
     version: *mut u16,
     algorithm: *mut u8,
     usage: *mut u8,
@@ -122,7 +122,7 @@ pub unsafe extern "C" fn oracle_read(
     place: *mut u8,
 ) -> u8 {
     let read = slots::read(&taken(table, slots), number);
-    *there = read.number;
+    *found = read.number;
     *version = read.fields.version;
     *algorithm = read.fields.algorithm as u8;
     *usage = read.fields.usage as u8;

@@ -11,7 +11,10 @@ use crate::slots::{
 };
 
 /// What `slotlist` reads of its input.
-pub const SLOTLIST_BYTES: usize = 4096;
+const SLOTLIST_BYTES: usize = 4096;
+
+/// Room for every listing.
+const LISTING_BYTES: usize = 2048;
 
 const ALGORITHM_NAMES: [&str; 3] = ["TEA5", "TEA6", "TEA7"];
 const USE_NAMES: [&str; 3] = ["SEND", "RECV", "BOTH"];
@@ -235,6 +238,17 @@ pub fn slotlist(input: &[u8]) -> Vec<u8> {
         Err(stop) => stop.line(),
     }
     .into_bytes()
+}
+
+/// Leaves what `slotlist` prints at the front of a buffer that has room for every listing, and gives its length. A smaller
+/// buffer stays as it is, and the length is 0.
+pub fn list(sheet: &[u8], buffer: &mut [u8]) -> u64 {
+    if buffer.len() < LISTING_BYTES {
+        return 0;
+    }
+    let text = slotlist(sheet);
+    buffer[..text.len()].copy_from_slice(&text);
+    text.len() as u64
 }
 
 /// Why, and at which record from 1, `slotlist` stopped.
