@@ -3,8 +3,8 @@ use mathlib.Core.List.{List, [], _∷_}
 use Prim.Native.Nat.{ℕ}
 use Rattle.fields.specs.declared.Asked.{Asked}
 use Rattle.fields.specs.declared.Fields.{Fields}
-use Rattle.records.specs.declared.RecordRead.{RecordRead}
-use Rattle.records.specs.Record.{recordWritten, bufferWritten}
+use Rattle.record_reader.specs.declared.RecordRead.{RecordRead}
+use Rattle.record_writer.specs.Written.{recordWritten, bufferWritten}
 use Rattle.plan.specs.declared.Plan.{Plan}
 
 -- the fields that a caller gives one by one

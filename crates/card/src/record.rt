@@ -1,6 +1,6 @@
 // Key records as text, for C.
 ghost use mathlib.Core.Path.{_≡_};
-ghost use Rattle.records.specs.Record.{recordRead};
+ghost use Rattle.record_reader.specs.Record.{recordRead};
 ghost use Rattle.card.specs.Faces.{asking, readAs, readOut, writtenAs, writtenOut};
 use fields::Asked;
 
@@ -17,7 +17,7 @@ pub extern "C" fn card_record_read(
     ensures { λ r. ⌜ readAs r (now (shown .exit)) (now (key .exit)) (now (used .exit)) (now (line .exit))
         ≡ readOut (recordRead (now (text .entry))) ⌝ }
 {
-    let r = records::read_record(text);
+    let r = record_reader::read_record(text);
     let f = r.fields;
     let k = r.key;
     *shown = [
@@ -57,7 +57,7 @@ pub extern "C" fn card_record_write(
         side,
         place,
     };
-    let w = records::write_record(number, asked, *key, buf);
+    let w = record_writer::write_record(number, asked, *key, buf);
     *length = w.length;
     w.refusal
 }

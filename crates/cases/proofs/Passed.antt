@@ -8,10 +8,10 @@ use lib.ListN.{length}
 use Rattle.span.specs.Span.{longestBuffer}
 use Rattle.laws.proofs.Cases.{and-left, and-right}
 use Rattle.bench.proofs.Passed.{KeyedPassed, keyed-passed}
-use Rattle.cases.specs.Line.{part}
-use Rattle.cases.specs.Parts.{areBytes}
+use Rattle.lines.specs.Line.{part}
+use Rattle.lines.specs.Parts.{areBytes}
 use Rattle.cases.specs.Case.{Case, lastPart, numbersReadable, isReadable, caseOf, Accepted}
-use Rattle.cases.proofs.Hexes.{length-bytes}
+use Rattle.lines.proofs.Hexes.{length-bytes}
 
 -- a readable line's bytes are bytes
 module _ (line : List ℕ) (e : isReadable line ≡ true) where

@@ -10,11 +10,11 @@ use Rattle.laws.proofs.Lists.{length-tabulate}
 use Rattle.span.proofs.Laws.{length-xored}
 use Rattle.tea.specs.Mixing.{mixedValue}
 use Rattle.tea.specs.Mode.{modeKey, modeValue, modeBy, modeOf}
-use Rattle.records.specs.Text.{ascii, lf, digits, hexText}
-use Rattle.records.specs.Writing.{Put}
-use Rattle.records.proofs.Puts.{put-length, length-hex}
-use Rattle.records.proofs.Lengths.{digits-short}
-use Rattle.cases.specs.Line.{space, indexOf, upTo}
+use Rattle.writing.specs.Text.{lf, digits, hexText}
+use Rattle.writing.specs.Writing.{Put}
+use Rattle.writing.proofs.Puts.{put-length, length-hex}
+use Rattle.writing.proofs.Digits.{digits-fit, line-length}
+use Rattle.lines.specs.Line.{space, indexOf, upTo}
 use Rattle.cases.specs.Case.{Case, isReadable, caseOf, refusalOf, Accepted}
 use Rattle.cases.specs.Answer.{valueText, modeText, ciphered, bufferText, acceptedText, refusedText, unreadableText, caseText, answerText, answerRoom}
 use Rattle.cases.proofs.Passed.{passed}
@@ -80,12 +80,7 @@ module _ {line : List ℕ} (a : Accepted line) where
 -- a refusal is a byte
 pub refused-fits : (refusal : ℕ) → refusal ≤ 255 → length (refusedText refusal) ≤ answerRoom
 refused-fits refusal h =
-    omega (
-      arith,
-      length-append (ascii "refused=") (digits refusal ++ (lf ∷ [])),
-      length-append (digits refusal) (lf ∷ []),
-      digits-short refusal,
-    )
+    omega (arith, line-length "refused=" (digits refusal), digits-fit 2 refusal (omega arith))
 
 -- what a caller knows of its buffer after an answer
 pub answered : {b b′ t : List ℕ} {n : ℕ} → (n ≤ answerRoom) × Put b 0 t b′ n → answerRoom ≤ length b → (length b′ ≡ length b) × (n ≤ length b′)

@@ -9,8 +9,8 @@ use Rattle.span.specs.Span.{xored}
 use Rattle.tea.specs.Mixing.{mixedValue}
 use Rattle.tea.specs.Mode.{modeOf}
 use Rattle.keystream.specs.Stream.{keystream}
-use Rattle.records.specs.Text.{ascii, lf, digits, hexText, lineText}
-use Rattle.cases.specs.Line.{space, indexOf, upTo}
+use Rattle.writing.specs.Text.{ascii, lf, digits, hexText, lineText}
+use Rattle.lines.specs.Line.{space, indexOf, upTo}
 use Rattle.cases.specs.Case.{Case, isReadable, caseOf, refusalOf}
 
 -- bytes and a space

@@ -7,10 +7,10 @@ use mathlib.Core.Path.{_≡_}
 use Prim.Native.Nat.{ℕ, _<_, _≤_}
 use lib.ListN.{length, getD}
 use Rattle.refusals.specs.Numbers.{done}
-use Rattle.records.specs.Text.{digits, hexText}
+use Rattle.writing.specs.Text.{digits, hexText}
 use Rattle.bench.specs.Bench.{keyedRefusal}
-use Rattle.cases.specs.Line.{space, afterSpaces, part}
-use Rattle.cases.specs.Parts.{largest, numberOf, areBytes, bytesOf}
+use Rattle.lines.specs.Line.{space, afterSpaces, part}
+use Rattle.lines.specs.Parts.{largest, numberOf, areBytes, bytesOf}
 
 -- in the order of the parts; `bits` is the length
 pub record Case : Type 0 where

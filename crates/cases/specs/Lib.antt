@@ -1,4 +1,2 @@
-pub mod Line
-pub mod Parts
 pub mod Case
 pub mod Answer

@@ -1,19 +1,19 @@
 // Writers of an answer's parts. Each puts a text into the buffer from a place on, and answers with the place at which it ends.
-use crate::bytes::read_bytes;
 use crate::case::buffer_size;
 use crate::case::iv_of;
 use crate::case::key_of;
 use crate::case::value;
-use crate::line::after_spaces;
-use records::writing::put_bytes;
-use records::writing::put_hex;
+use lines::after_spaces;
+use lines::bytes::read_bytes;
 use tea::mixing::mixed_value;
 use tea::mode::mode_of;
+use writing::put_bytes;
+use writing::put_hex;
 ghost use mathlib.Core.Path.{_≡_};
 ghost use Prim.Native.Nat.{_+_, _≤_, _/_};
 ghost use lib.ListN.{length};
 ghost use Rattle.span.specs.Span.{longestBuffer};
-ghost use Rattle.records.specs.Writing.{Room, Put};
+ghost use Rattle.writing.specs.Writing.{Room, Put};
 ghost use Rattle.cases.specs.Case.{lastPart, caseOf, Accepted};
 ghost use Rattle.cases.specs.Answer.{valueText, modeText, ciphered, bufferText, acceptedText, answerRoom};
 

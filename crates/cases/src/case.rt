@@ -1,15 +1,16 @@
 // A case by its line: algorithm, key, initial value, start, length, skip and buffer.
-use crate::bytes::are_bytes;
-use crate::bytes::read_bytes;
-use crate::line::after_spaces;
-use crate::line::part;
-use crate::number::read_number;
 use bench::keyed_refusal;
+use lines::after_spaces;
+use lines::bytes::are_bytes;
+use lines::bytes::read_bytes;
+use lines::number::read_number;
+use lines::part;
+ghost use mathlib.Core.Bool.{_&&_};
 ghost use mathlib.Core.Path.{_≡_};
 ghost use Prim.Native.Nat.{_/_};
 ghost use lib.ListN.{length};
-ghost use Rattle.cases.specs.Line.{part};
-ghost use Rattle.cases.specs.Parts.{numberOf};
+ghost use Rattle.lines.specs.Line.{part};
+ghost use Rattle.lines.specs.Parts.{numberOf};
 ghost use Rattle.cases.specs.Case.{isNumber, lastPart, numbersReadable, isReadable, caseOf, refusalOf, Accepted};
 
 fn is_number(line: &[u8], k: usize) -> bool
@@ -43,35 +44,37 @@ pub fn buffer_size(line: &[u8]) -> usize
     bytes.len() / 2
 }
 
+fn both(a: bool, b: bool) -> bool
+    ensures { λ r. ⌜ r ≡ a && b ⌝ }
+{
+    if a {
+        return b;
+    }
+    false
+}
+
 fn numbers_readable(line: &[u8]) -> bool
     ensures { λ r. ⌜ r ≡ numbersReadable (now (line .entry)) ⌝ }
 {
-    if !is_number(line, 0) {
-        return false;
-    }
-    if !is_number(line, 3) {
-        return false;
-    }
-    if !is_number(line, 4) {
-        return false;
-    }
-    is_number(line, 5)
+    both(
+        is_number(line, 0),
+        both(
+            is_number(line, 3),
+            both(is_number(line, 4), is_number(line, 5)),
+        ),
+    )
 }
 
 // Has the line the form of a case?
 pub fn is_readable(line: &[u8]) -> bool
     ensures { λ r. ⌜ r ≡ isReadable (now (line .entry)) ⌝ }
 {
-    if !numbers_readable(line) {
-        return false;
-    }
-    if !are_bytes(part(line, 1)) {
-        return false;
-    }
-    if !are_bytes(part(line, 2)) {
-        return false;
-    }
-    are_bytes(after_spaces(line, 6))
+    let buffer = are_bytes(after_spaces(line, 6));
+    let bytes = both(
+        are_bytes(part(line, 1)),
+        both(are_bytes(part(line, 2)), buffer),
+    );
+    both(numbers_readable(line), bytes)
 }
 
 pub fn case_refusal(line: &[u8]) -> u8

@@ -1,23 +1,20 @@
 // What the program `vectors` prints: the answer to a case, which is a line of its input.
 mod answer;
-mod bytes;
 mod case;
-mod line;
-mod number;
 
 use answer::put_accepted;
 use case::case_refusal;
 use case::is_readable;
-use line::index_of;
-use line::piece_length;
-use records::writing::put_bytes;
-use records::writing::put_line;
+use lines::index_of;
+use lines::piece_length;
+use writing::put_bytes;
+use writing::put_line;
 ghost use mathlib.Core.Path.{_≡_};
 ghost use Prim.Native.Nat.{_≤_};
 ghost use lib.ListN.{length};
-ghost use Rattle.records.specs.Text.{lf};
-ghost use Rattle.records.specs.Writing.{Put};
-ghost use Rattle.cases.specs.Line.{pieceLength};
+ghost use Rattle.writing.specs.Text.{lf};
+ghost use Rattle.writing.specs.Writing.{Put};
+ghost use Rattle.lines.specs.Line.{pieceLength};
 ghost use Rattle.cases.specs.Answer.{caseText, answerText, answerRoom};
 
 // Every answer fits a buffer of this many bytes.

@@ -17,8 +17,10 @@ use Rattle.slots.specs.declared.Shown.{Shown}
 use Rattle.fields.specs.Fields.{noFields}
 use Rattle.slots.specs.Slots.{slotAt}
 use Rattle.slots.specs.Calls.{loadRefusalOf, moveRefusalOf, clearRefusalOf}
-use Rattle.records.specs.Reading.{noKey}
-use Rattle.records.specs.Record.{lineOf, recordRead, writeRefusal, recordWritten, bufferWritten}
+use Rattle.record_reader.specs.Lines.{noKey}
+use Rattle.lines.specs.Line.{lineOf}
+use Rattle.record_reader.specs.Record.{recordRead}
+use Rattle.record_writer.specs.Written.{writeRefusal, recordWritten, bufferWritten}
 use Rattle.records.proofs.Promises.{read-or-refused}
 use Rattle.plan.specs.Plan.{planRefusal, planOf}
 use Rattle.sheet.specs.Sheet.{room, listedLength, listedBuffer}

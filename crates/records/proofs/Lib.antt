@@ -1,13 +1,2 @@
-pub mod Forms
-pub mod Decimals
-pub mod Choices
-pub mod Words
-pub mod Hexes
-pub mod Records
-pub mod Steps
-pub mod Keys
 pub mod Lines
-pub mod Puts
-pub mod Lengths
-pub mod Refusals
 pub mod Promises

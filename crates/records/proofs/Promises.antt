@@ -15,14 +15,15 @@ use Rattle.refusals.specs.Numbers.{done, recordTextBad}
 use Rattle.fields.specs.Fields.{storedOf, askedOf}
 use Rattle.fields.specs.declared.Asked.{Asked}
 use Rattle.fields.specs.declared.Fields.{Fields}
-use Rattle.records.specs.Text.{recordText, Good}
-use Rattle.records.specs.Form.{Outcome, found, wrong, readAt}
-use Rattle.records.specs.Record.{Entry, recordForm, lineEnds, lineOf, entryRead, refusedAt, readAnswer, recordRead, recordWritten, bufferWritten}
-use Rattle.records.proofs.Forms.{Spells, reads, spelt, Stop, stops, stop-within}
-use Rattle.records.proofs.Records.{record-means}
+use Rattle.record_text.specs.Text.{recordText, Good}
+use Rattle.forms.specs.Form.{Outcome, found, wrong, readAt}
+use Rattle.record_reader.specs.Record.{Entry, recordForm, entryRead, refusedAt, readAnswer, recordRead}
+use Rattle.lines.specs.Line.{lineEnds, lineOf}
+use Rattle.record_writer.specs.Written.{recordWritten, bufferWritten}
+use Rattle.forms.proofs.Forms.{Spells, reads, spelt, Stop, stops, stop-within}
+use Rattle.record_reader.proofs.Records.{record-means}
 use Rattle.records.proofs.Lines.{six-ends}
-use Rattle.records.proofs.Lengths.{right}
-use Rattle.records.proofs.Refusals.{accepted as writing-accepts, nothing-refused, put-whole}
+use Rattle.record_writer.proofs.Refusals.{right, accepted as writing-accepts, nothing-refused, put-whole}
 
 -- READING
 

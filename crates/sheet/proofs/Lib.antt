@@ -1,4 +1,2 @@
-pub mod Left
 pub mod Lines
-pub mod Loads
 pub mod Listed

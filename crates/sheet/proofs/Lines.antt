@@ -1,45 +1,22 @@
--- The lines of a listing: their words, how long they are, and one slot more. Assumes nothing.
+-- The lines of a listing but those of its slots: how long they are, and one slot more. Assumes nothing.
 use mathlib.Core.Path.{_≡_}
-use mathlib.Core.Logic.{⊎-elim}
 use mathlib.Core.Bool.{Bool, true, false}
 use mathlib.Core.List.{List, [], _∷_, _++_}
-use Prim.Native.Nat.{ℕ, zero, suc, _+_, _/_, _^_, _<_, _≤_}
-use Prim.Native.String.{String}
-use native.Mathlib.Nat.{pow-suc}
+use Prim.Native.Nat.{ℕ, suc, _+_, _<_, _≤_}
 use native.Mathlib.Numerals.{add-one}
 use native.Mathlib.Omega.{arith}
-use lib.ListN.{length, getD, drop, length-append, drop-of-length-le}
+use lib.ListN.{length, getD, drop, drop-of-length-le}
 use lib.Seq.{drop-cons}
 use borrow.Author.Tests.{eq-eqb, ne-eqb}
 use Rattle.laws.specs.Choice.{pick}
-use Rattle.laws.proofs.Cases.{lt-or-le}
 use Rattle.refusals.specs.Numbers.{done}
-use Rattle.algorithms.specs.Algorithm.{nameOf}
-use Rattle.fields.specs.Fields.{allInRange, askedOf}
-use Rattle.fields.specs.declared.Fields.{Fields}
-use Rattle.fields.proofs.Ranges.{side-high, place-high}
 use Rattle.slots.specs.declared.Slot.{Slot}
 use Rattle.slots.specs.Slots.{nil, isFilled}
-use Rattle.records.specs.Text.{ascii, lf, digits, useWord, lineText}
-use Rattle.records.proofs.Puts.{length-one, length-ten}
-use Rattle.records.proofs.Lengths.{name-length, use-length}
-use Rattle.sheet.specs.declared.loading.Loaded.{Loaded}
-use Rattle.sheet.specs.Sheet.{item, slotLine, slotText, slotLines, filledCount, tableText, refusalText, loadedText, longestLine}
-
--- a number below ten to the power k + 1 has at most k + 1 digits
-pub digits-fit : (k n : ℕ) → n < 10 ^ suc k → length (digits n) ≤ suc k
-digits-fit zero n h = omega (arith, length-one n h)
-digits-fit (suc k) n h =
-    let e = pow-suc 10 (suc k) in
-    ⊎-elim (λ l. omega (arith, length-one n l))
-    (λ l. omega (arith, length-ten n l, digits-fit k (n / 10) (omega arith)))
-    (lt-or-le n 10)
-
-item-length : (name : String) (value rest : List ℕ) → length (item name value ++ rest) ≡ length (ascii name) + (length value + length rest)
-item-length name value rest = omega (arith, length-append (item name value) rest, length-append (ascii name) value)
-
-pub line-length : (name : String) (value : List ℕ) → length (lineText name value) ≡ length (ascii name) + (length value + 1)
-line-length name value = omega (arith, length-append (ascii name) (value ++ (lf ∷ [])), length-append value (lf ∷ []))
+use Rattle.writing.specs.Text.{digits, lineText, item}
+use Rattle.writing.proofs.Digits.{digits-fit, item-length, line-length}
+use Rattle.loading.specs.declared.Loaded.{Loaded}
+use Rattle.sheet.specs.Sheet.{filledCount, tableText, refusalText, loadedText}
+use Rattle.slot_lines.specs.Lines.{slotLines}
 
 pub refusal-length : (refusal position line : ℕ) → length (refusalText refusal position line)
     ≡ length (digits refusal) + (length (digits position) + (length (digits line) + 23))
@@ -53,56 +30,15 @@ refusal-length refusal position line =
       line-length " line=" (digits line),
     )
 
-pub line-short : (number : ℕ) (f : Fields) → number ≤ 32 → f .version ≤ 65535 → allInRange (askedOf f) ≡ true → length (slotLine number f) ≤ longestLine
-unfolding slotLine
-line-short number f n v r =
-    let sixth = lineText " place=" (digits (f .place)) in
-    let fifth = item " side=" (digits (f .side)) ++ sixth in
-    let fourth = item " use=" (useWord (f .usage)) ++ fifth in
-    let third = item " alg=" (nameOf (f .algorithm)) ++ fourth in
-    let second = item " version=" (digits (f .version)) ++ third in
-    omega (
-      arith,
-      item-length "number=" (digits number) second,
-      item-length " version=" (digits (f .version)) third,
-      item-length " alg=" (nameOf (f .algorithm)) fourth,
-      item-length " use=" (useWord (f .usage)) fifth,
-      item-length " side=" (digits (f .side)) sixth,
-      line-length " place=" (digits (f .place)),
-      digits-fit 1 number (omega arith),
-      digits-fit 4 (f .version) (omega arith),
-      name-length (f .algorithm),
-      use-length (f .usage),
-      length-one (f .side) (omega (arith, side-high (askedOf f) r)),
-      digits-fit 1 (f .place) (omega (arith, place-high (askedOf f) r)),
-    )
-
 pub header-short : length (lineText "table=" (digits 32)) ≤ 9
 header-short = omega (arith, line-length "table=" (digits 32), digits-fit 1 32 (omega arith))
 
 pub count-short : (count : ℕ) → count ≤ 32 → length (lineText "filled=" (digits count)) ≤ 10
 count-short count h = omega (arith, line-length "filled=" (digits count), digits-fit 1 count (omega arith))
 
--- the text of a slot that is filled, and of one that is not
-
-module _ (number : ℕ) (slot : Slot) where
-  pub filled-text : isFilled slot ≡ true → slotText number slot ≡ slotLine number (slot .fields)
-  filled-text e = rw e
-
-  pub empty-text : isFilled slot ≡ false → slotText number slot ≡ []
-  empty-text e = rw e
-
 -- of a table, i slots are passed
 
 module _ (table : List Slot) (i : ℕ) where
-  pub lines-next : i < length table → slotLines (i + 1) (drop i table) ≡ slotText (i + 1) (getD table i nil) ++ slotLines (i + 1 + 1) (drop (i + 1) table)
-  unfolding slotLines
-  lines-next h = rw (add-one i, drop-cons table i nil h)
-
-  pub lines-none : length table ≤ i → slotLines (i + 1) (drop i table) ≡ []
-  unfolding slotLines
-  lines-none h = rw (drop-of-length-le table h)
-
   pub count-next : i < length table → filledCount (drop i table) ≡ pick (isFilled (getD table i nil)) 1 0 + filledCount (drop (i + 1) table)
   unfolding filledCount
   count-next h = rw (add-one i, drop-cons table i nil h)

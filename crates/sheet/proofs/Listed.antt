@@ -10,8 +10,7 @@ use lib.ListN.{length, drop, length-append}
 use lib.Seq.{sets-eq}
 use borrow.Author.Tests.{le-ltb}
 use Rattle.laws.specs.Choice.{pick}
-use Rattle.records.specs.Writing.{Put}
-use Rattle.records.specs.Record.{atFront}
+use Rattle.writing.specs.Writing.{Put, atFront}
 use Rattle.sheet.specs.Sheet.{listing, room, listedLength, listedBuffer}
 
 pub listed : (sheet b : List ℕ) → room ≤ length b → {b′ : List ℕ} {n : ℕ} → n ≤ room → Put b 0 (listing sheet) b′ n

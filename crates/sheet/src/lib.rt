@@ -1,6 +1,5 @@
 // What the program `slotlist` prints, from the bytes of its input (document 01, "Key records").
 mod listing;
-mod loading;
 
 use listing::put_loaded;
 use loading::load_all;

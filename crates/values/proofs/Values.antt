@@ -15,12 +15,15 @@ use Rattle.tea.specs.Mixing.{expandedByte, mixedValue}
 use Rattle.span.specs.Span.{blocksUsed}
 use Rattle.slots.specs.Slots.{allZero, isEmpty, isFilled, isBad, hasBad}
 use Rattle.slots.specs.Calls.{moveRefusalOf}
-use Rattle.records.specs.Text.{digitsWithin, digits, useWord, hexDigit, hexText, recordText}
-use Rattle.records.specs.Form.{readAt, _>>=_, either, literal}
-use Rattle.records.specs.Decimals.{mayBegin, mayFollow, afterWithin, after, decimal}
-use Rattle.records.specs.Words.{oneOf, useForm, algorithmForm}
-use Rattle.records.specs.Hexes.{isHex, hexValue, byte, bytes, keyForm}
-use Rattle.records.specs.Record.{recordForm, recordRead, writeRefusal, recordWritten, bufferWritten}
+use Rattle.writing.specs.Text.{digitsWithin, digits, hexDigit, hexText}
+use Rattle.record_text.specs.Text.{useWord, recordText}
+use Rattle.forms.specs.Form.{readAt, _>>=_, either, literal}
+use Rattle.forms.specs.Decimals.{mayBegin, mayFollow, afterWithin, after, decimal}
+use Rattle.forms.specs.Words.{oneOf}
+use Rattle.record_reader.specs.Lines.{useForm, algorithmForm, keyForm}
+use Rattle.forms.specs.Hexes.{isHex, hexValue, byte, bytes}
+use Rattle.record_reader.specs.Record.{recordForm, recordRead}
+use Rattle.record_writer.specs.Written.{writeRefusal, recordWritten, bufferWritten}
 use Rattle.plan.specs.Plan.{planRefusal, plannedPieces, planOf}
 use Rattle.values.specs.Values.{Row, row, pTable}
 

@@ -1,7 +1,6 @@
 -- The values that document 01 marks P ("Values to hold"), the plan's as request [3] of document 02 has it: one table. Assumes nothing: these are definitions.
 use mathlib.Core.List.{List, [], _∷_, _++_}
 use Prim.Native.Nat.{ℕ}
-use Prim.Native.String.{String}
 use lib.ListN.{getD, replicate}
 use Rattle.field.specs.Field.{times, sBox}
 use Rattle.algorithms.specs.Algorithm.{combining}
@@ -11,10 +10,10 @@ use Rattle.fields.specs.Fields.{askedOf}
 use Rattle.slots.specs.declared.Slot.{Slot}
 use Rattle.slots.specs.Slots.{empty}
 use Rattle.slots.specs.Calls.{moveRefusal}
-use Rattle.records.specs.declared.RecordRead.{RecordRead}
-use Rattle.records.specs.declared.RecordWritten.{RecordWritten}
-use Rattle.records.specs.Text.{ascii}
-use Rattle.records.specs.Record.{recordRead, recordWritten, bufferWritten}
+use Rattle.record_reader.specs.declared.RecordRead.{RecordRead}
+use Rattle.writing.specs.Text.{ascii}
+use Rattle.record_reader.specs.Record.{recordRead}
+use Rattle.record_writer.specs.Written.{recordWritten, bufferWritten}
 use Rattle.plan.specs.declared.Plan.{Plan}
 use Rattle.plan.specs.Plan.{planOf}
 

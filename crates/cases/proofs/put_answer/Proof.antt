@@ -5,10 +5,10 @@ use native.Mathlib.Omega.{arith}
 use lib.ListN.{take}
 use lib.Seq.{length-take-le}
 use borrow.Author.Needs.{needs}
-use Rattle.records.specs.Text.{lf}
-use Rattle.records.proofs.Puts.{put-length, put-as}
+use Rattle.writing.specs.Text.{lf}
+use Rattle.writing.proofs.Puts.{put-length, put-as}
 use Rattle.cases.specs.Answer.{caseText}
-use Rattle.cases.proofs.Pieces.{index-within}
+use Rattle.lines.proofs.Pieces.{index-within}
 use Rattle.cases.proofs.Texts.{text-cut, text-line}
 use Rattle.cases.proofs.put_answer.Statement.{statement}
 use Rattle.cases.proofs.put_answer.Tie as tie

@@ -2,7 +2,7 @@
 use mathlib.Core.Path.{refl, ap}
 use borrow.Author.Needs.{needs}
 use borrow.Author.Tests.{lt-ltb}
-use Rattle.records.proofs.Puts.{put-as}
+use Rattle.writing.proofs.Puts.{put-as}
 use Rattle.sheet.specs.Sheet.{loadedText, listing, listedLength, listedBuffer}
 use Rattle.sheet.proofs.Listed.{listed}
 use Rattle.sheet.proofs.list_sheet.Statement.{statement}

@@ -6,7 +6,7 @@ use lib.ListN.{length}
 use lib.Seq.{length-take-le}
 use borrow.Author.Needs.{needs}
 use Rattle.cases.specs.Answer.{answerRoom}
-use Rattle.cases.proofs.Pieces.{step-within, step-some}
+use Rattle.lines.proofs.Pieces.{step-within, step-some}
 use Rattle.cases.proofs.Texts.{answered}
 use Rattle.vectors.proofs.answer_all.Statement.{statement}
 use Rattle.vectors.proofs.answer_all.Tie as tie

@@ -7,7 +7,7 @@ use lib.ListN.{length}
 use borrow.Author.Needs.{needs}
 use Rattle.span.specs.Span.{xored}
 use Rattle.keystream.specs.Stream.{keystream}
-use Rattle.cases.specs.Parts.{areBytes, bytesOf}
+use Rattle.lines.specs.Parts.{areBytes, bytesOf}
 use Rattle.cases.specs.Case.{caseOf}
 use Rattle.cases.specs.Answer.{ciphered}
 use Rattle.cases.proofs.Passed.{passed, buffer-readable}

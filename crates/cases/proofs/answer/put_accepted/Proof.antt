@@ -3,7 +3,7 @@ use mathlib.Core.List.{_++_}
 use mathlib.Core.Path.{_≡_}
 use native.Mathlib.Omega.{arith}
 use borrow.Author.Needs.{needs}
-use Rattle.records.proofs.Puts.{put-then, put-length, put-as}
+use Rattle.writing.proofs.Puts.{put-then, put-length, put-as}
 use Rattle.cases.specs.Case.{caseOf}
 use Rattle.cases.specs.Answer.{modeText, bufferText, acceptedText}
 use Rattle.cases.proofs.Texts.{mode-length, buffer-fits}

@@ -3,8 +3,8 @@ use mathlib.Core.List.{List, [], _∷_, _++_}
 use mathlib.Core.Path.{_≡_, sym, ap}
 use Prim.Native.Nat.{ℕ}
 use borrow.Author.Needs.{needs}
-use Rattle.records.specs.Text.{lf, hexText}
-use Rattle.records.proofs.Puts.{put-then, put-length, put-as, room-first, room-then, room-as}
+use Rattle.writing.specs.Text.{lf, hexText}
+use Rattle.writing.proofs.Puts.{put-then, put-length, put-as, room-first, room-then, room-as}
 use Rattle.cases.specs.Case.{caseOf}
 use Rattle.cases.specs.Answer.{bufferText}
 use Rattle.cases.proofs.answer.put_ciphered.Statement.{statement}

@@ -3,7 +3,7 @@ use mathlib.Core.List.{_++_}
 use mathlib.Core.Path.{_≡_}
 use native.Mathlib.Omega.{arith}
 use borrow.Author.Needs.{needs}
-use Rattle.records.proofs.Puts.{put-then, put-length, put-as}
+use Rattle.writing.proofs.Puts.{put-then, put-length, put-as}
 use Rattle.cases.specs.Answer.{valueText, modeText}
 use Rattle.cases.proofs.answer.put_mode.Statement.{statement}
 use Rattle.cases.proofs.answer.put_mode.Tie as tie

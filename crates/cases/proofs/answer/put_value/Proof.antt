@@ -3,8 +3,8 @@ use mathlib.Core.Path.{_≡_}
 use native.Mathlib.Omega.{arith}
 use lib.ListN.{length}
 use borrow.Author.Needs.{needs}
-use Rattle.records.specs.Writing.{Room}
-use Rattle.records.proofs.Puts.{put-then, put-length, room-first, room-then}
+use Rattle.writing.specs.Writing.{Room}
+use Rattle.writing.proofs.Puts.{put-then, put-length, room-first, room-then}
 use Rattle.cases.specs.Answer.{valueText}
 use Rattle.cases.proofs.Texts.{value-length}
 use Rattle.cases.proofs.answer.put_value.Statement.{statement}

@@ -5,10 +5,10 @@ use Prim.Native.Nat.{ℕ, _/_}
 use lib.ListN.{length}
 use borrow.Author.Needs.{needs}
 use Rattle.bench.specs.Bench.{keyedRefusal}
-use Rattle.cases.specs.Line.{part}
-use Rattle.cases.specs.Parts.{bytesOf}
+use Rattle.lines.specs.Line.{part}
+use Rattle.lines.specs.Parts.{bytesOf}
 use Rattle.cases.specs.Case.{lastPart, caseOf}
-use Rattle.cases.proofs.Hexes.{length-bytes}
+use Rattle.lines.proofs.Hexes.{length-bytes}
 use Rattle.cases.proofs.case.case_refusal.Statement.{statement}
 use Rattle.cases.proofs.case.case_refusal.Tie as tie
 

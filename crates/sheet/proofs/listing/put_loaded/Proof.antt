@@ -1,7 +1,7 @@
 -- `listing::put_loaded`: the text by the test that led to it. Assumes nothing.
 use mathlib.Core.Path.{sym}
 use borrow.Author.Needs.{needs}
-use Rattle.records.proofs.Puts.{put-as}
+use Rattle.writing.proofs.Puts.{put-as}
 use Rattle.sheet.proofs.Lines.{text-loaded, text-refused}
 use Rattle.sheet.proofs.listing.put_loaded.Statement.{statement}
 use Rattle.sheet.proofs.listing.put_loaded.Tie as tie

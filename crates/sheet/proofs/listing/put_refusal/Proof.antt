@@ -3,10 +3,11 @@ use Prim.Native.Nat.{_≤_}
 use native.Mathlib.Omega.{arith}
 use lib.ListN.{length}
 use borrow.Author.Needs.{needs}
-use Rattle.records.specs.Writing.{Room}
+use Rattle.writing.specs.Writing.{Room}
 use Rattle.sheet.specs.Sheet.{refusalText, room}
-use Rattle.sheet.proofs.Left.{left-all, left-room, left-next, left-last, next-room}
-use Rattle.sheet.proofs.Lines.{digits-fit, refusal-length}
+use Rattle.writing.proofs.Left.{left-all, left-room, left-next, left-last, next-room}
+use Rattle.writing.proofs.Digits.{digits-fit}
+use Rattle.sheet.proofs.Lines.{refusal-length}
 use Rattle.sheet.proofs.listing.put_refusal.Statement.{statement}
 use Rattle.sheet.proofs.listing.put_refusal.Tie as tie
 

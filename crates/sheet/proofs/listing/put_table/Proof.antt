@@ -4,7 +4,7 @@ use Prim.Native.Nat.{_≤_}
 use native.Mathlib.Omega.{arith}
 use borrow.Author.Needs.{needs}
 use lib.ListN.{length}
-use Rattle.records.proofs.Puts.{put-as, put-then, put-length}
+use Rattle.writing.proofs.Puts.{put-as, put-then, put-length}
 use Rattle.sheet.proofs.Lines.{header-short, count-short, count-high, table-text}
 use Rattle.sheet.proofs.listing.put_table.Statement.{statement}
 use Rattle.sheet.proofs.listing.put_table.Tie as tie

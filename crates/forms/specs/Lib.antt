@@ -1,0 +1,4 @@
+pub mod Form
+pub mod Decimals
+pub mod Words
+pub mod Hexes
