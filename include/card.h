@@ -21,6 +21,10 @@
 #include <stddef.h>
 #include <stdint.h>
 
+/* The version of what this file declares. 2: card_record_read leaves a column too. What was compiled with an older file
+   has to be compiled again: nothing can tell at run time. */
+#define CARD_FACE 2
+
 #ifdef __cplusplus
 extern "C" {
 #endif
@@ -42,7 +46,7 @@ enum card_answer {
     CARD_DIRECTION = 12,     /* use doesn't include the direction */
     CARD_IV_SIDE = 13,       /* the initial value's side bit is wrong */
     CARD_USE_WIDER = 14,     /* asked use not within the present use, or 0 asked of a key for both */
-    CARD_RECORD_TEXT = 15,   /* record text bad; line 1..7 given */
+    CARD_RECORD_TEXT = 15,   /* record text bad; line 1..7 and column given */
     CARD_TABLE = 16,         /* table not 32 records, or a bad slot in it */
     CARD_RECORD_ROOM = 17,   /* record text longer than the buffer */
     CARD_PDU_CODE = 18,      /* PDU kind, state or flag unknown, or PDU above 8,288 bits */
@@ -131,11 +135,12 @@ uint8_t card_bench(uint64_t algorithm, const uint8_t *key, size_t key_bytes, con
                    uint8_t *buffer, size_t buffer_bytes, size_t length, size_t *blocks);
 
 /* Reads one record, seven lines of text, from the front of a text. `shown` becomes number, version, algorithm, use,
-   side and place, `used` the bytes that the record took; what follows it is not judged. On refusal 15, `line` becomes
-   the first line that is wrong or cut short, 1..7, and all else zero.
+   side and place, `used` the bytes that the record took; what follows it is not judged. On refusal 15, `line` and
+   `column` say where the first byte stands at which no good record can go on, both counted from 1, and all else becomes
+   zero: the line is 1..7; of a text that ends too early the column is just past its end.
    Refused: 15. */
 uint8_t card_record_read(const uint8_t *text, size_t text_bytes, uint64_t shown[6], uint8_t key[CARD_KEY_BYTES],
-                         size_t *used, size_t *line);
+                         size_t *used, size_t *line, size_t *column);
 
 /* Writes a record to the front of a buffer, keeps the bytes after it, and leaves its length, 105 to CARD_RECORD_BYTES.
    Refused: 7, 1, 10, 11, 17. */
@@ -145,9 +150,9 @@ uint8_t card_record_write(uint64_t number, uint16_t version, uint64_t algorithm,
 
 /* Loads every record of a sheet into an empty table, one after the other, and leaves the table's listing at the front of
    the buffer: a header, a line for each filled slot without its key, and their count. Where a record is refused, the
-   listing is only the line `refused=N record=R line=L`, with the record counted from 1. Each line ends with LF; no NUL
-   follows. Answers the listing's length, and keeps the bytes after it. A buffer of fewer than CARD_LISTING_BYTES bytes
-   stays as it is, and the answer is 0. */
+   listing is only the line `refused=N record=R line=L column=C`, with the record counted from 1. Each line ends with LF;
+   no NUL follows. Answers the listing's length, and keeps the bytes after it. A buffer of fewer than
+   CARD_LISTING_BYTES bytes stays as it is, and the answer is 0. */
 size_t card_slotlist(const uint8_t *sheet, size_t sheet_bytes, uint8_t *buffer, size_t buffer_bytes);
 
 /* Which bits of a direct mode PDU are ciphered. kind: 1 DMAC-DATA, 2 DMAC-SYNC on SCH/H, 3 DMAC-SYNC on SCH/S; state:

@@ -127,18 +127,19 @@ static void make_plain(const struct face *face, const struct call *call, struct 
     take_number(0, outcome);
 }
 
-/* Its six shown numbers are one array; they go to the first six of the outcome, `used` and `line` after them. */
+/* Its six shown numbers are one array; they go to the first six of the outcome, `used`, `line` and `column` after them. */
 static void make_record_read(const struct face *face, const struct call *call, struct outcome *outcome)
 {
     outcome->answer =
         face->record_read(lend_bytes(TEXT_ROOM, &call->text), call->text.count, lend_number(0, 6 * 8),
                           room_lend_unset(KEY_ROOM, CARD_KEY_BYTES), lend_number(6, sizeof(size_t)),
-                          lend_number(7, sizeof(size_t)));
+                          lend_number(7, sizeof(size_t)), lend_number(8, sizeof(size_t)));
     take_bytes(TEXT_ROOM);
     room_take(KEY_ROOM, outcome->key);
     room_take(FIRST_NUMBER_ROOM, outcome->numbers);
     take_number(6, outcome);
     take_number(7, outcome);
+    take_number(8, outcome);
 }
 
 static void make_record_write(const struct face *face, const struct call *call, struct outcome *outcome)

@@ -31,7 +31,7 @@ struct call {
     struct bytes key, iv, text, buffer;           /* the text is a record's or a sheet's */
 };
 
-enum { MOST_NUMBERS = 8 };
+enum { MOST_NUMBERS = 9 };
 
 /* The answer, the numbers that it reported in the order of card.h, and all that may have changed. The listing of a sheet
    has no answer but its length, which is the first number. */

@@ -23,19 +23,31 @@ static void agree(const struct call *call, const struct outcome *given, const st
     report("card and second program differ");
 }
 
-/* Refused: nothing changed and every number is 0, save the line, which is the last. */
+/* Line and column name a byte of the text that is no line end before the next, or the place just past the text. */
+static int names_a_place(const struct bytes *text, uint64_t line, uint64_t column)
+{
+    const uint8_t *start = text->at, *end = text->at + text->count, *next;
+
+    while (--line > 0 && (next = memchr(start, '\n', end - start)) != NULL)
+        start = next + 1;
+    return line == 0 && column >= 1 && column - 1 <= (size_t)(end - start) &&
+           memchr(start, '\n', column - 1) == NULL;
+}
+
+/* Refused: nothing changed and every number is 0, save line and column, which are the last. */
 static void refused_changes_nothing(const struct call *call, const struct table *before, const struct outcome *given)
 {
     static const uint64_t zeros[MOST_NUMBERS];
-    int line_given = given->answer == CARD_RECORD_TEXT;
-    uint64_t line = given->numbers[MOST_NUMBERS - 1];
+    int place_given = given->answer == CARD_RECORD_TEXT;
+    uint64_t line = given->numbers[MOST_NUMBERS - 2], column = given->numbers[MOST_NUMBERS - 1];
 
     hold("a refused call changed the table", !kind_has_table(call->kind) || table_same(&given->table, before));
     hold("a refused call changed the buffer",
          !kind_has_buffer(call->kind) || bytes_same(&given->buffer, &call->buffer));
     hold("a refused call reports a number",
-         memcmp(given->numbers, zeros, (MOST_NUMBERS - 1) * sizeof zeros[0]) == 0);
-    hold("the line isn't 1 to 7", line_given ? line >= 1 && line <= 7 : line == 0);
+         memcmp(given->numbers, zeros, (MOST_NUMBERS - 2) * sizeof zeros[0]) == 0);
+    hold("the line isn't 1 to 7", place_given ? line >= 1 && line <= 7 : line == 0);
+    hold("line and column name no place", place_given ? names_a_place(&call->text, line, column) : column == 0);
     hold("a refused call gives a key", memcmp(given->key, zeros, CARD_KEY_BYTES) == 0);
 }
 
@@ -82,7 +94,8 @@ static void read_as_written(const struct call *call, const struct table *table, 
     static struct call read;
     static struct outcome back;
     const uint64_t shown[] = {call->number, call->version, call->algorithm,   call->usage,
-                              call->side,   call->place,   given->numbers[0], 0};
+                              call->side,   call->place,   given->numbers[0], 0,
+                              0};
 
     read.kind = RECORD_READ;
     bytes_copy(&read.text, &given->buffer);

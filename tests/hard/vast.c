@@ -21,7 +21,7 @@ struct made {
     uint8_t key[CARD_KEY_BYTES], iv[CARD_IV_BYTES], buffer[64], front[FRONT_BYTES];
     uint8_t listing[CARD_LISTING_BYTES];
     uint64_t shown[6], found;
-    size_t numbers[2];
+    size_t numbers[3];
     uint16_t version;
     uint8_t fields[4];
 };
@@ -98,7 +98,8 @@ static void read_table(const struct face *face, struct made *m)
 static void record_read(const struct face *face, struct made *m)
 {
     snprintf((char *)vast, FRONT_BYTES, "number=1\nversion=0\nalg=TEA5\nuse=SEND\nside=0\nplace=0\nkey=%048d\n", 7);
-    m->answer = face->record_read(vast, CUT, m->shown, m->key, &m->numbers[0], &m->numbers[1]);
+    m->answer = face->record_read(vast, CUT, m->shown, m->key, &m->numbers[0], &m->numbers[1],
+                                  &m->numbers[2]);
 }
 
 static void record_write(const struct face *face, struct made *m)

@@ -14,7 +14,7 @@ static struct card_slot chosen[CARD_SLOTS], table[CARD_SLOTS];
 static uint8_t key[CARD_KEY_BYTES], iv[CARD_IV_BYTES], read_key[CARD_KEY_BYTES];
 static uint8_t text[CARD_RECORD_BYTES + 1], sheet[CARD_SLOTS * CARD_RECORD_BYTES + 1], buffer[CARD_BUFFER_BYTES];
 static uint64_t number, target, other, direction, shown[6], found;
-static size_t length, start, skip, blocks, used, line;
+static size_t length, start, skip, blocks, used, line, column;
 static uint16_t version;
 static uint8_t algorithm, usage, side, place;
 static size_t text_bytes, sheet_bytes;
@@ -64,7 +64,7 @@ static uint8_t make_plain(void)
 
 static uint8_t make_record_read(void)
 {
-    return card_record_read(text, text_bytes, shown, read_key, &used, &line);
+    return card_record_read(text, text_bytes, shown, read_key, &used, &line, &column);
 }
 
 static uint8_t make_record_write(void)

@@ -11,11 +11,12 @@ int main(void) {
     uint8_t key[CARD_KEY_BYTES], written[CARD_RECORD_BYTES], keystream[40] = {0};
     const uint8_t iv[CARD_IV_BYTES] = {0};
     uint8_t listing[CARD_LISTING_BYTES];
-    size_t used, line, length, pieces[6], blocks;
+    size_t used, line, column, length, pieces[6], blocks;
 
-    printf("record read: %d\n", card_record_read((const uint8_t *)record, strlen(record), shown, key, &used, &line));
+    printf("record read: %d\n", card_record_read((const uint8_t *)record, strlen(record), shown, key, &used, &line,
+                                                 &column));
     for (int i = 0; i < 6; i++) printf("%d ", (int)shown[i]);
-    printf("used %s, line %d\n", used == strlen(record) ? "all" : "not all", (int)line);
+    printf("used %s, line %d, column %d\n", used == strlen(record) ? "all" : "not all", (int)line, (int)column);
 
     printf("record write: %d\n", card_record_write(shown[0], (uint16_t)shown[1], shown[2], shown[3], shown[4], shown[5],
                                                    key, written, sizeof written, &length));

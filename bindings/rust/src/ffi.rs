@@ -89,6 +89,7 @@ extern "C" {
         key: *mut u8,
         used: *mut usize,
         line: *mut usize,
+        column: *mut usize,
     ) -> u8;
 
     fn card_record_write(
@@ -286,6 +287,7 @@ pub fn record_read(text: &[u8]) -> Result<Record, Refusal> {
     let mut key = Key::from([0; KEY_BYTES]);
     let mut used = 0;
     let mut line = 0;
+    let mut column = 0;
     // Safety: each pointer is good for its length, and the library keeps none of them.
     let answer = unsafe {
         card_record_read(
@@ -295,12 +297,16 @@ pub fn record_read(text: &[u8]) -> Result<Record, Refusal> {
             key.bytes_mut().as_mut_ptr(),
             &mut used,
             &mut line,
+            &mut column,
         )
     };
     wipe::stack_below();
     let [number, fields @ ..] = shown;
     match answered(answer, ()) {
-        Err(Refusal::RecordText { .. }) => Err(Refusal::RecordText { line: line as u8 }),
+        Err(Refusal::RecordText { .. }) => Err(Refusal::RecordText {
+            line: line as u8,
+            column: column as u8,
+        }),
         Err(refusal) => Err(refusal),
         Ok(()) => Ok(Record {
             number,

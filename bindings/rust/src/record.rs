@@ -17,7 +17,8 @@ pub struct Record {
 
 /// Reads one record, seven lines, from the front of a text. What follows it is not judged.
 ///
-/// Refused: 15, with the first line that is wrong or cut short.
+/// Refused: 15, with line and column of the first byte at which no good record can go on;
+/// [`Refusal::shown_in`] points at it.
 ///
 /// A sheet of records is loaded so:
 ///
@@ -36,7 +37,7 @@ pub struct Record {
 ///
 /// assert!(loaded(include_bytes!("../../../samples/keys.txt")).is_ok());
 /// let refusal = loaded(include_bytes!("../../../samples/damaged.txt")).unwrap_err();
-/// assert_eq!(refusal, Refusal::RecordText { line: 6 });
+/// assert_eq!(refusal, Refusal::RecordText { line: 6, column: 8 });
 /// ```
 pub fn record_read(text: &[u8]) -> Result<Record, Refusal> {
     ffi::record_read(text)
@@ -75,7 +76,7 @@ pub fn record_write(
 /// assert!(listing.starts_with("table=32\nnumber=1 version=17 alg=TEA5 use=BOTH side=0 place=28\n"));
 /// assert!(listing.ends_with("filled=4\n"));
 /// let refused = slotlist(include_bytes!("../../../samples/damaged.txt"));
-/// assert_eq!(refused, "refused=15 record=2 line=6\n");
+/// assert_eq!(refused, "refused=15 record=2 line=6 column=8\n");
 /// ```
 pub fn slotlist(sheet: &[u8]) -> String {
     let (length, buffer) = ffi::slotlist(sheet);

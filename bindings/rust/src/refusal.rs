@@ -48,6 +48,9 @@ pub enum Refusal {
     RecordText {
         /// The first line that is wrong or cut short, 1 to 7.
         line: u8,
+        /// The byte of that line, counted from 1, at which no good record can go on; just past the end of a
+        /// text that ends too early.
+        column: u8,
     },
     /// 16: table not 32 records, or a bad slot in it.
     Table,
@@ -77,14 +80,14 @@ const LISTED: [Refusal; 19] = [
     Refusal::Direction,
     Refusal::IvSide,
     Refusal::UseWider,
-    Refusal::RecordText { line: 0 },
+    Refusal::RecordText { line: 0, column: 0 },
     Refusal::Table,
     Refusal::RecordRoom,
     Refusal::PduCode,
     Refusal::PduParts,
 ];
 
-/// What is wrong and what to look at, from refusal 1 on. Refusal 15 says more, by its line.
+/// What is wrong and what to look at, from refusal 1 on. Refusal 15 says more, by its line and column.
 const SENTENCES: [&str; 19] = [
     "the algorithm isn't 5, 6 or 7; look at the algorithm that was asked for",
     "the bench key isn't 24 bytes; look at how long the key is",
@@ -145,6 +148,26 @@ impl Refusal {
         }
     }
 
+    /// The sentence that this prints as; where it names a place, with the line of the text that was read and a
+    /// caret below the byte. What may be digits of a key is shown as `*`.
+    ///
+    /// ```
+    /// let text = b"number=3\nversion=65536\n";
+    /// let shown = card::record_read(text).unwrap_err().shown_in(text);
+    /// assert!(shown.ends_with("\nversion=65536\n            ^"));
+    /// ```
+    pub fn shown_in(self, text: &[u8]) -> String {
+        let Refusal::RecordText { line, column } = self else {
+            return self.to_string();
+        };
+        let mut lines = text.split(|byte| *byte == b'\n');
+        let shown = lines
+            .nth(usize::from(line).saturating_sub(1))
+            .map(shown_line);
+        let below = usize::from(column);
+        format!("{self}\n{}\n{:>below$}", shown.unwrap_or_default(), '^')
+    }
+
     /// The refusal that a call answered; nothing where it was done.
     pub(crate) fn answered(answer: u8) -> Option<Refusal> {
         let place = usize::from(answer.checked_sub(1)?);
@@ -158,7 +181,7 @@ impl fmt::Display for Refusal {
         let number = self.number();
         write!(f, "refused with {number}: ")?;
         match self {
-            Refusal::RecordText { line } => write_line_sentence(f, *line),
+            Refusal::RecordText { line, column } => write_line_sentence(f, *line, *column),
             Refusal::Unlisted(_) => f.write_str(
                 "this number is newer than the bindings; look it up in the library's card.h",
             ),
@@ -167,15 +190,36 @@ impl fmt::Display for Refusal {
     }
 }
 
-fn write_line_sentence(f: &mut fmt::Formatter, line: u8) -> fmt::Result {
+fn write_line_sentence(f: &mut fmt::Formatter, line: u8, column: u8) -> fmt::Result {
     let place = usize::from(line).checked_sub(1);
     let good = place
         .and_then(|place| LINES.get(place))
         .unwrap_or(&"1 to 7");
     write!(
         f,
-        "line {line} of the record is wrong or cut short; look at that line: it should be {good}"
+        "line {line} of the record is wrong or cut short at column {column}; look there: the line should be {good}"
     )
+}
+
+/// The longest line but for the key's, `version=65535`, and the most that is shown of one.
+const LINE_BYTES: usize = 13;
+const SHOWN_BYTES: usize = 60;
+
+/// A line as it can be printed, a letter for each byte: `*` for what may be a digit of a key, and `?` for what is
+/// no letter.
+fn shown_line(line: &[u8]) -> String {
+    let secret = line.starts_with(b"key") || line.len() > LINE_BYTES;
+    let name = line.iter().position(|byte| *byte == b'=').unwrap_or(0);
+    let letter = |(place, byte): (usize, &u8)| match byte {
+        byte if secret && place >= name && byte.is_ascii_hexdigit() => '*',
+        b' '..=b'~' => char::from(*byte),
+        _ => '?',
+    };
+    line.iter()
+        .take(SHOWN_BYTES)
+        .enumerate()
+        .map(letter)
+        .collect()
 }
 
 impl Error for Refusal {}

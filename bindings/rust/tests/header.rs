@@ -35,7 +35,7 @@ const REFUSALS: [(&str, Refusal); 19] = [
     ("DIRECTION", Refusal::Direction),
     ("IV_SIDE", Refusal::IvSide),
     ("USE_WIDER", Refusal::UseWider),
-    ("RECORD_TEXT", Refusal::RecordText { line: 1 }),
+    ("RECORD_TEXT", Refusal::RecordText { line: 1, column: 1 }),
     ("TABLE", Refusal::Table),
     ("RECORD_ROOM", Refusal::RecordRoom),
     ("PDU_CODE", Refusal::PduCode),

@@ -28,8 +28,8 @@ fn same(text: &[u8]) {
             assert_eq!(record.length as u64, expected.length, "{text:?}");
         }
         Err(refusal) => {
-            let line = expected.line as u8;
-            assert_eq!(refusal, Refusal::RecordText { line }, "{text:?}");
+            let (line, column) = (expected.line as u8, expected.column as u8);
+            assert_eq!(refusal, Refusal::RecordText { line, column }, "{text:?}");
             assert_eq!(u64::from(refusal.number()), expected.refusal);
         }
     }
@@ -65,7 +65,7 @@ fn what_follows_a_record_is_not_judged() {
 }
 
 #[test]
-fn texts_that_are_cut_short_have_the_line() {
+fn texts_that_are_cut_short_have_line_and_column() {
     for length in 0..TEXT.len() {
         assert!(record_read(&TEXT[..length]).is_err());
         same(&TEXT[..length]);
@@ -73,7 +73,7 @@ fn texts_that_are_cut_short_have_the_line() {
 }
 
 #[test]
-fn texts_with_another_byte_have_the_line() {
+fn texts_with_another_byte_have_line_and_column() {
     for place in 0..TEXT.len() {
         for byte in [0, b'\n', b'\r', b' ', b'0', b'1', b'9', b'F', b'f', 0xff] {
             let mut text = TEXT.to_vec();
@@ -89,9 +89,44 @@ fn a_refusal_says_what_its_line_should_be() {
     for (line, text) in (1..=7).zip(lines) {
         let name = String::from_utf8_lossy(text);
         let name = name.split_inclusive('=').next().unwrap();
-        let printed = Refusal::RecordText { line }.to_string();
-        let start = format!("refused with 15: line {line} of the record is wrong or cut short");
+        let printed = Refusal::RecordText { line, column: 9 }.to_string();
+        let start =
+            format!("refused with 15: line {line} of the record is wrong or cut short at column 9");
         assert!(printed.starts_with(&start), "{printed}");
         assert!(printed.contains(&format!("should be {name}")), "{printed}");
     }
+}
+
+/// What `shown_in` prints below the sentence.
+fn pointed_at(text: &[u8]) -> String {
+    let shown = record_read(text).unwrap_err().shown_in(text);
+    shown.split_once('\n').unwrap().1.to_string()
+}
+
+#[test]
+fn a_refusal_points_at_the_byte() {
+    assert_eq!(pointed_at(b""), "\n^");
+    assert_eq!(pointed_at(b"number=3\n"), "\n^");
+    assert_eq!(
+        pointed_at(b"number=3\nversion=65536\n"),
+        "version=65536\n            ^"
+    );
+    assert_eq!(pointed_at(b"number=3\tx\n"), "number=3?x\n        ^");
+}
+
+#[test]
+fn a_refusal_shows_no_digit_of_a_key() {
+    let end = TEXT.len() - 1;
+    let digits = "*".repeat(48);
+    let long = [&TEXT[..end], b"1\n"].concat();
+    assert_eq!(pointed_at(&long), format!("key={digits}*\n{:>53}", '^'));
+    let cut = &TEXT[..end - 40];
+    assert_eq!(pointed_at(cut), format!("key=********\n{:>13}", '^'));
+    let early = [b"number=3\n", &TEXT[end - 52..]].concat();
+    assert_eq!(pointed_at(&early), format!("key={digits}\n^"));
+}
+
+#[test]
+fn another_refusal_shows_no_text() {
+    assert_eq!(Refusal::Table.shown_in(TEXT), Refusal::Table.to_string());
 }

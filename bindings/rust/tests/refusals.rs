@@ -338,7 +338,7 @@ fn a_typed_number_stands_in_a_codes_place() {
     assert_eq!(bench(5, &KEY, &IV, &mut [0], 8), Ok(1));
 }
 
-/// The refusal is an error like any other, and its line can be matched.
+/// The refusal is an error like any other, and its line and column can be matched.
 #[test]
 fn a_refusal_is_an_error() {
     fn loaded(text: &[u8]) -> Result<Table, Box<dyn std::error::Error>> {
@@ -350,7 +350,7 @@ fn a_refusal_is_an_error() {
     let error = loaded(b"number=3\nversion=17\nalg=TEA6\nuse=sent\n").unwrap_err();
     assert_eq!(
         error.to_string(),
-        "refused with 15: line 4 of the record is wrong or cut short; \
-         look at that line: it should be use= and SEND, RECV or BOTH"
+        "refused with 15: line 4 of the record is wrong or cut short at column 5; \
+         look there: the line should be use= and SEND, RECV or BOTH"
     );
 }

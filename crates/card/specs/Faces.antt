@@ -21,19 +21,21 @@ pieceNumbers p = p .first .start ∷ p .first .length ∷ p .first .skip ∷ p .
 
 -- Each answer as one record, part by part as its caller has it.
 
--- of reading a record: the refusal, number and fields, the key, the bytes that it took and the line
+-- of reading a record: the refusal, number and fields, the key, the bytes that it took, line and column
 pub record ReadOut : Type 0 where
   pub refusal : ℕ
   pub shown : List ℕ
   pub key : List ℕ
   pub used : ℕ
   pub line : ℕ
+  pub column : ℕ
 
-abbrev pub readAs : ℕ → List ℕ → List ℕ → ℕ → ℕ → ReadOut
-readAs refusal shown key used line = record { refusal = refusal; shown = shown; key = key; used = used; line = line }
+abbrev pub readAs : ℕ → List ℕ → List ℕ → ℕ → ℕ → ℕ → ReadOut
+readAs refusal shown key used line column =
+    record { refusal = refusal; shown = shown; key = key; used = used; line = line; column = column }
 
 abbrev pub readOut : RecordRead → ReadOut
-readOut r = readAs (r .refusal) (shownNumbers (r .number) (r .fields)) (r .key) (r .used) (r .line)
+readOut r = readAs (r .refusal) (shownNumbers (r .number) (r .fields)) (r .key) (r .used) (r .line) (r .column)
 
 -- of writing one: the refusal, the text's length and the buffer afterwards
 pub record WrittenOut : Type 0 where

@@ -5,7 +5,7 @@ ghost use Rattle.card.specs.Faces.{asking, readAs, readOut, writtenAs, w
 use fields::Asked;
 
 // Reads one record from the front of a text: leaves its number and fields in `shown`, its key in `key`, and how many bytes it took in
-// `used`. On refusal 15 the line is left in `line`, and zeros elsewhere.
+// `used`. On refusal 15 `line` and `column` say where the first byte stands at which no good record goes on, and zeros are left elsewhere.
 #[no_mangle]
 pub extern "C" fn card_record_read(
     text: &[u8],
@@ -13,8 +13,9 @@ pub extern "C" fn card_record_read(
     key: &mut [u8; 24],
     used: &mut usize,
     line: &mut usize,
+    column: &mut usize,
 ) -> u8
-    ensures { λ r. ⌜ readAs r (now (shown .exit)) (now (key .exit)) (now (used .exit)) (now (line .exit))
+    ensures { λ r. ⌜ readAs r (now (shown .exit)) (now (key .exit)) (now (used .exit)) (now (line .exit)) (now (column .exit))
         ≡ readOut (recordRead (now (text .entry))) ⌝ }
 {
     let r = record_reader::read_record(text);
@@ -31,6 +32,7 @@ pub extern "C" fn card_record_read(
     *key = k;
     *used = r.used;
     *line = r.line;
+    *column = r.column;
     r.refusal
 }
 

@@ -1,6 +1,6 @@
 -- Demand 1: "a refused call changes no bit of a buffer or slot". For each public call, over the definitions that its contract cites: where
 -- the answer is not 0, all that the call was lent to write is as it was, and every number that it reports is 0 (a record's refusal keeps
--- its line). Assumes nothing.
+-- its line and column). Assumes nothing.
 use mathlib.Core.Path.{_≡_, refl}
 use mathlib.Core.Logic.{⊎-elim}
 use mathlib.Core.Bool.{Bool, true, false}
@@ -18,7 +18,7 @@ use Rattle.fields.specs.Fields.{noFields}
 use Rattle.slots.specs.Slots.{slotAt}
 use Rattle.slots.specs.Calls.{loadRefusalOf, moveRefusalOf, clearRefusalOf}
 use Rattle.record_reader.specs.Lines.{noKey}
-use Rattle.lines.specs.Line.{lineOf}
+use Rattle.lines.specs.Line.{lineOf, columnOf}
 use Rattle.record_reader.specs.Record.{recordRead}
 use Rattle.record_writer.specs.Written.{writeRefusal, recordWritten, bufferWritten}
 use Rattle.records.proofs.Promises.{read-or-refused}
@@ -69,10 +69,11 @@ pub bench-refused : (algorithm : ℕ) (key iv buf : List ℕ) (n : ℕ) → (ben
 unfolding benched benchBlocks
 bench-refused algorithm key iv buf n r = rw (ne-eqb (benchRefusal algorithm key iv buf n) done r) (refl, refl)
 
--- `card_record_read`: zeros for all but the line
+-- `card_record_read`: zeros for all but line and column
 pub record-read-refused : (s : List ℕ) → (recordRead s .refusal ≡ done → ⊥)
-    → (line : ℕ) × (recordRead s ≡ record { refusal = recordTextBad; line = line; used = 0; number = 0; fields = noFields; key = noKey })
-record-read-refused s n = ⊎-elim (λ e. absurd (n e)) (λ r. (lineOf s (r .place), r .answer)) (read-or-refused s)
+    → (line column : ℕ)
+    × (recordRead s ≡ record { refusal = recordTextBad; line = line; column = column; used = 0; number = 0; fields = noFields; key = noKey })
+record-read-refused s n = ⊎-elim (λ e. absurd (n e)) (λ r. (lineOf s (r .place), columnOf s (r .place), r .answer)) (read-or-refused s)
 
 -- `card_record_write`: no length is reported, and the buffer is as it was
 pub record-write-refused : (number : ℕ) (asked : Asked) (key b : List ℕ) → (recordWritten number asked key b .refusal ≡ done → ⊥)

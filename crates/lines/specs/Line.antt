@@ -1,6 +1,6 @@
--- The lines of a text: the parts of one, which single spaces separate, and the one in which a place lies. Assumes nothing: these are definitions.
+-- The lines of a text: the parts of one, which single spaces separate, and the line and the column of a place. Assumes nothing: these are definitions.
 use mathlib.Core.List.{List, [], _∷_}
-use Prim.Native.Nat.{ℕ, zero, suc, _+_}
+use Prim.Native.Nat.{ℕ, zero, suc, _+_, _-_}
 use lib.Dec.{eqb}
 use lib.ListN.{length, take, drop}
 use Rattle.laws.specs.Choice.{pick}
@@ -39,3 +39,21 @@ lineEnds (b ∷ s) = pick (eqb b lf) 1 0 + lineEnds s
 -- the line in which a place lies, counted from 1
 unfoldable pub lineOf : List ℕ → ℕ → ℕ
 lineOf s place = 1 + lineEnds (take place s)
+
+-- the column that follows a text which begins at a column: 1 after a line end, and one more after any other byte
+unfoldable pub columnAfter : ℕ → List ℕ → ℕ
+columnAfter column [] = column
+columnAfter column (b ∷ s) = columnAfter (pick (eqb b lf) 1 (column + 1)) s
+
+-- the column of a place in its line, counted from 1
+unfoldable pub columnOf : List ℕ → ℕ → ℕ
+columnOf s place = columnAfter 1 (take place s)
+
+-- how many bytes of a text the first n line ends take, with what stands before them
+unfoldable pub throughEnds : ℕ → List ℕ → ℕ
+throughEnds n [] = 0
+throughEnds n (b ∷ s) = pick (eqb n 0) 0 (suc (throughEnds (pick (eqb b lf) (n - 1) n) s))
+
+-- the place that a line and a column name
+unfoldable pub placeOf : List ℕ → ℕ → ℕ → ℕ
+placeOf s line column = throughEnds (line - 1) s + (column - 1)

@@ -1,11 +1,11 @@
-// The lines of a text: the line in which a place lies, and a line's parts, which single spaces separate.
+// The lines of a text: the line and the column of a place, and a line's parts, which single spaces separate.
 pub mod bytes;
 pub mod number;
 
 ghost use mathlib.Core.Path.{_≡_};
 ghost use Prim.Native.Nat.{_≤_};
 ghost use lib.ListN.{length};
-ghost use Rattle.lines.specs.Line.{indexOf, pieceLength, afterSpaces, part, lineOf};
+ghost use Rattle.lines.specs.Line.{indexOf, pieceLength, afterSpaces, part, lineOf, columnOf};
 
 // The place of the first byte b, or the length where there is none.
 pub fn index_of(s: &[u8], b: u8) -> usize
@@ -68,4 +68,21 @@ pub fn line_of(text: &[u8], place: usize) -> usize
         i += 1;
     }
     line
+}
+
+// The column of a place in its line, counted from 1.
+pub fn column_of(text: &[u8], place: usize) -> usize
+    requires { ⌜ place ≤ length (now text) ⌝ }
+    ensures { λ r. ⌜ r ≡ columnOf (now (text .entry)) place ⌝ }
+{
+    let mut column = 1;
+    let mut i = 0;
+    while i < place {
+        column += 1;
+        if text[i] == 10 {
+            column = 1;
+        }
+        i += 1;
+    }
+    column
 }

@@ -1,14 +1,16 @@
 -- Loading record after record. Assumes nothing.
 use mathlib.Core.Path.{_≡_, refl, sym, ap, _∙_}
+use mathlib.Core.Logic.{_⊎_, inl, inr, ⊎-elim}
 use mathlib.Core.Bool.{false, not}
 use mathlib.Core.List.{List}
 use Prim.Native.Nat.{ℕ, zero, suc, _+_, _<_, _≤_}
 use native.Mathlib.Omega.{arith}
 use lib.Dec.{eqb}
 use lib.ListN.{length, drop, length-append}
-use borrow.Author.Tests.{eq-eqb, ne-eqb}
+use borrow.Author.Tests.{eqb-false, eq-eqb, ne-eqb, not-true}
 use Rattle.laws.specs.Choice.{pick}
-use Rattle.refusals.specs.Numbers.{done}
+use Rattle.laws.proofs.Cases.{pick-cases}
+use Rattle.refusals.specs.Numbers.{done, recordTextBad}
 use Rattle.fields.specs.declared.Asked.{Asked}
 use Rattle.slots.specs.declared.Slot.{Slot}
 use Rattle.slots.specs.declared.Changed.{Changed}
@@ -46,6 +48,31 @@ taken s = go (readAt recordForm s 0) refl
         }
     go (wrong place) h z = absurd (omega arith)
 
+-- a text that is not read is refused with 15
+text-bad : (s : List ℕ) → (recordRead s .refusal ≡ done) ⊎ (recordRead s .refusal ≡ recordTextBad)
+unfolding recordRead
+text-bad s = go (readAt recordForm s 0)
+  where
+    go : (o : Outcome Entry) → (readAnswer s o .refusal ≡ done) ⊎ (readAnswer s o .refusal ≡ recordTextBad)
+    go (found e used) = inl refl
+    go (wrong place) = inr refl
+
+-- a sheet that is not refused with 15 has neither line nor column
+abbrev Elsewhere : Loaded → Type 0
+Elsewhere l = (l .refusal ≡ recordTextBad) ⊎ ((l .line ≡ 0) × (l .column ≡ 0))
+
+pub elsewhere : (k : ℕ) (table : List Slot) (position : ℕ) (s : List ℕ) → Elsewhere (loadWithin k table position s)
+unfolding loadWithin
+elsewhere zero table position s = inr (refl, refl)
+elsewhere (suc k) table position s =
+    let read = recordRead s in
+    let change = loaded table (read .number) (askedOf (read .fields)) (read .key) in
+    pick-cases Elsewhere (eqb (length s) 0) (λ _. inr (refl, refl))
+    (λ _. pick-cases Elsewhere (not (eqb (read .refusal) done))
+    (λ n. inl (⊎-elim (λ e. absurd (eqb-false (read .refusal) done (not-true _ n) e)) (λ e. e) (text-bad s)))
+    (λ _. pick-cases Elsewhere (not (eqb (change .refusal) done)) (λ _. inr (refl, refl))
+    (λ _. elsewhere k (change .table) (position + 1) (drop (read .used) s))))
+
 -- nothing is left
 pub load-end : (k : ℕ) (table : List Slot) (position : ℕ) (s : List ℕ) → length s ≡ 0 → loadWithin k table position s ≡ filled table
 unfolding loadWithin
@@ -57,8 +84,8 @@ module _ (k : ℕ) (table : List Slot) (position : ℕ) (s : List ℕ) where
   abbrev after : RecordRead → Changed → Loaded
   after read change =
       pick (eqb (length s) 0) (filled table)
-      (pick (not (eqb (read .refusal) done)) (refused (read .refusal) position (read .line))
-      (pick (not (eqb (change .refusal) done)) (refused (change .refusal) position 0)
+      (pick (not (eqb (read .refusal) done)) (refused (read .refusal) position (read .line) (read .column))
+      (pick (not (eqb (change .refusal) done)) (refused (change .refusal) position 0 0)
       (loadWithin k (change .table) (position + 1) (drop (read .used) s))))
 
   module _ (some : 0 < length s) {read : RecordRead} (r : read ≡ recordRead s) where
@@ -69,7 +96,7 @@ module _ (k : ℕ) (table : List Slot) (position : ℕ) (s : List ℕ) where
     filled-not : eqb (length s) 0 ≡ false
     filled-not = ne-eqb (length s) 0 (λ z. omega arith)
 
-    pub text-refused : (read .refusal ≡ done → ⊥) → loadWithin (suc k) table position s ≡ refused (read .refusal) position (read .line)
+    pub text-refused : (read .refusal ≡ done → ⊥) → loadWithin (suc k) table position s ≡ refused (read .refusal) position (read .line) (read .column)
     text-refused n = one ∙ rw (filled-not, ne-eqb (read .refusal) done n)
 
     module _ (good : read .refusal ≡ done) {asked : Asked} (a : asked ≡ askedOf (read .fields))
@@ -77,7 +104,7 @@ module _ (k : ℕ) (table : List Slot) (position : ℕ) (s : List ℕ) where
       both : loadWithin (suc k) table position s ≡ after read change
       both = one ∙ ap (λ x. after read (loaded table (read .number) x (read .key))) (sym a) ∙ ap (after read) (sym c)
 
-      pub load-refused : (change .refusal ≡ done → ⊥) → loadWithin (suc k) table position s ≡ refused (change .refusal) position 0
+      pub load-refused : (change .refusal ≡ done → ⊥) → loadWithin (suc k) table position s ≡ refused (change .refusal) position 0 0
       load-refused n = both ∙ rw (filled-not, eq-eqb (read .refusal) done good, ne-eqb (change .refusal) done n)
 
       pub load-next : change .refusal ≡ done → loadWithin (suc k) table position s ≡ loadWithin k (change .table) (position + 1) (drop (read .used) s)

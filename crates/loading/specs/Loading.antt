@@ -15,11 +15,12 @@ use Rattle.loading.specs.declared.Loaded.{Loaded}
 
 -- every record is loaded
 abbrev pub filled : List Slot → Loaded
-filled table = record { refusal = done; position = 0; line = 0; table = table }
+filled table = record { refusal = done; position = 0; line = 0; column = 0; table = table }
 
 -- a record is refused
-abbrev pub refused : ℕ → ℕ → ℕ → Loaded
-refused refusal position line = record { refusal = refusal; position = position; line = line; table = emptyTable }
+abbrev pub refused : ℕ → ℕ → ℕ → ℕ → Loaded
+refused refusal position line column =
+    record { refusal = refusal; position = position; line = line; column = column; table = emptyTable }
 
 -- The records of s, the first of them at a position of the sheet, are loaded into a table one after the other, until the bytes end.
 -- The first argument only bounds how many there are.
@@ -29,8 +30,8 @@ loadWithin (suc k) table position s =
     let read = recordRead s in
     let change = loaded table (read .number) (askedOf (read .fields)) (read .key) in
     pick (eqb (length s) 0) (filled table)
-    (pick (not (eqb (read .refusal) done)) (refused (read .refusal) position (read .line))
-    (pick (not (eqb (change .refusal) done)) (refused (change .refusal) position 0)
+    (pick (not (eqb (read .refusal) done)) (refused (read .refusal) position (read .line) (read .column))
+    (pick (not (eqb (change .refusal) done)) (refused (change .refusal) position 0 0)
     (loadWithin k (change .table) (position + 1) (drop (read .used) s))))
 
 -- into an empty table, counted from 1

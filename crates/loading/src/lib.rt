@@ -7,11 +7,12 @@ use slots::load;
 ghost use mathlib.Core.Path.{_≡_};
 ghost use Rattle.loading.specs.Loading.{filled, refused, loadAll};
 
-// The table; or the refusal of a record, the record's place in the sheet counted from 1, and the line, with an empty table.
+// The table; or the refusal of a record, the record's place in the sheet counted from 1, line and column, with an empty table.
 pub struct Loaded {
     pub refusal: u8,
     pub position: usize,
     pub line: usize,
+    pub column: usize,
     pub table: [Slot; 32],
 }
 
@@ -22,17 +23,19 @@ fn filled(table: [Slot; 32]) -> Loaded
         refusal: refusals::DONE,
         position: 0,
         line: 0,
+        column: 0,
         table,
     }
 }
 
-fn refused(refusal: u8, position: usize, line: usize) -> Loaded
-    ensures { λ r. ⌜ r ≡ refused refusal position line ⌝ }
+fn refused(refusal: u8, position: usize, line: usize, column: usize) -> Loaded
+    ensures { λ r. ⌜ r ≡ refused refusal position line column ⌝ }
 {
     Loaded {
         refusal,
         position,
         line,
+        column,
         table: empty_table(),
     }
 }
@@ -47,13 +50,13 @@ pub fn load_all(sheet: &[u8]) -> Loaded
     while at < sheet.len() {
         let read = read_record(&sheet[at..]);
         if read.refusal != refusals::DONE {
-            return refused(read.refusal, position, read.line);
+            return refused(read.refusal, position, read.line, read.column);
         }
         let fields = read.fields;
         let key = read.key;
         let change = load(table, read.number, asked(fields), key);
         if change.refusal != refusals::DONE {
-            return refused(change.refusal, position, 0);
+            return refused(change.refusal, position, 0, 0);
         }
         let next = change.table;
         table = next;

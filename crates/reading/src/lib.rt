@@ -98,14 +98,15 @@ fn read_after(s: &[u8], at: usize, high: u64, n: u64) -> Reading
     let mut i = at;
     while i < s.len() {
         let b = s[i];
+        let next = i + 1;
         if b == 10 {
-            return good_to(value, i + 1);
+            return good_to(value, next);
         }
         if !may_follow(high, value, b) {
             return wrong_at(i);
         }
         value = value * 10 + ((b - 48) as u64);
-        i += 1;
+        i = next;
     }
     wrong_at(i)
 }

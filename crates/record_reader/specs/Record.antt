@@ -6,7 +6,7 @@ use Rattle.refusals.specs.Numbers as numbers
 use Rattle.fields.specs.Fields.{noFields}
 use Rattle.fields.specs.declared.Fields.{Fields}
 use Rattle.record_reader.specs.declared.RecordRead.{RecordRead}
-use Rattle.lines.specs.Line.{lineOf}
+use Rattle.lines.specs.Line.{lineOf, columnOf}
 use Rattle.forms.specs.Form.{Form, done, Outcome, found, wrong, readAt, line, _>>=_}
 use Rattle.forms.specs.Decimals.{decimal}
 use Rattle.record_reader.specs.Lines.{useForm, algorithmForm, keyForm, noKey}
@@ -34,11 +34,19 @@ recordForm = do
   })
 
 abbrev pub entryRead : Entry → ℕ → RecordRead
-entryRead e used = record { refusal = numbers.done; line = 0; used = used; number = e .number; fields = e .fields; key = e .key }
+entryRead e used = record { refusal = numbers.done; line = 0; column = 0; used = used; number = e .number; fields = e .fields; key = e .key }
 
 abbrev pub refusedAt : List ℕ → ℕ → RecordRead
 refusedAt s place =
-    record { refusal = numbers.recordTextBad; line = lineOf s place; used = 0; number = 0; fields = noFields; key = noKey }
+    record {
+      refusal = numbers.recordTextBad;
+      line = lineOf s place;
+      column = columnOf s place;
+      used = 0;
+      number = 0;
+      fields = noFields;
+      key = noKey;
+    }
 
 abbrev pub readAnswer : List ℕ → Outcome Entry → RecordRead
 readAnswer s (found e used) = entryRead e used

@@ -1,6 +1,7 @@
 // Key records read from text (document 01, "Key records"): one from the front of a text.
 use algorithms::name;
 use fields::Fields;
+use lines::column_of;
 use lines::line_of;
 use reading::Reading;
 use reading::good_to;
@@ -72,10 +73,11 @@ fn read_key(s: &[u8], before: Reading) -> KeyReading
     }
 }
 
-// A record and how many bytes it took; or refusal 15 with the line, and zeros.
+// A record and how many bytes it took; or refusal 15 with line and column of the first byte that is wrong, and zeros.
 pub struct RecordRead {
     pub refusal: u8,
     pub line: usize,
+    pub column: usize,
     pub used: usize,
     pub number: u64,
     pub fields: Fields,
@@ -90,6 +92,7 @@ fn refused_at(text: &[u8], place: usize) -> RecordRead
     RecordRead {
         refusal: refusals::RECORD_TEXT,
         line: line_of(text, place),
+        column: column_of(text, place),
         used: 0,
         number: 0,
         fields: Fields {
@@ -122,6 +125,7 @@ pub fn read_record(text: &[u8]) -> RecordRead
     RecordRead {
         refusal: refusals::DONE,
         line: 0,
+        column: 0,
         used: end,
         number: number.value,
         fields: Fields {

@@ -18,7 +18,8 @@ use Rattle.fields.specs.declared.Fields.{Fields}
 use Rattle.record_text.specs.Text.{recordText, Good}
 use Rattle.forms.specs.Form.{Outcome, found, wrong, readAt}
 use Rattle.record_reader.specs.Record.{Entry, recordForm, entryRead, refusedAt, readAnswer, recordRead}
-use Rattle.lines.specs.Line.{lineEnds, lineOf}
+use Rattle.lines.specs.Line.{lineEnds, lineOf, placeOf}
+use Rattle.lines.proofs.Ends.{place-named}
 use Rattle.record_writer.specs.Written.{recordWritten, bufferWritten}
 use Rattle.forms.proofs.Forms.{Spells, reads, spelt, Stop, stops, stop-within}
 use Rattle.record_reader.proofs.Records.{record-means}
@@ -76,7 +77,7 @@ read-is-good s h = go (readAt recordForm s 0) refl h
           r .after ∙ zero-add (length (r .text)) ∙ ap length (m .1),
         )
 
--- any other text is refused with 15, and its line is that of the first place at which no good record can go on
+-- any other text is refused with 15, and its line and column are those of the first place at which no good record can go on
 pub record Refused (s : List ℕ) : Type 0 where
   pub place : ℕ
   pub stuck : Stuck s place
@@ -143,6 +144,23 @@ one-place s p q a b =
     ⊎-elim (λ h. absurd (not-before s p q h a b))
     (λ h. ⊎-elim (λ e. sym e) (λ l. absurd (not-before s q p l b a)) (eq-or-lt-of-le {n = q} {m = p} h))
     (lt-or-le p q)
+
+-- line and column name that place
+pub names : (s : List ℕ) (r : Refused s) → placeOf s (recordRead s .line) (recordRead s .column) ≡ r .place
+names s r = (λ i. placeOf s (r .answer i .line) (r .answer i .column)) ∙ place-named s (r .place) (r .stuck .within)
+
+-- so at the place that they name the bytes before it begin some good record, and with the byte there, if there is one, they begin none
+pub stuck-there : (s : List ℕ) → (recordRead s .refusal ≡ done → ⊥) → Stuck s (placeOf s (recordRead s .line) (recordRead s .column))
+stuck-there s n = ⊎-elim (λ e. absurd (n e)) (λ r. subst (Stuck s) (sym (names s r)) (r .stuck)) (read-or-refused s)
+
+-- a text that is read has neither
+pub nowhere : (s : List ℕ) → recordRead s .refusal ≡ done → (recordRead s .line ≡ 0) × (recordRead s .column ≡ 0)
+unfolding recordRead
+nowhere s = go (readAt recordForm s 0)
+  where
+    go : (o : Outcome Entry) → readAnswer s o .refusal ≡ done → (readAnswer s o .line ≡ 0) × (readAnswer s o .column ≡ 0)
+    go (found v q) h = (refl, refl)
+    go (wrong q) h = absurd (omega arith)
 
 -- the line is 1 to 7
 pub line-number : (s : List ℕ) → Refused s → (1 ≤ recordRead s .line) × (recordRead s .line ≤ 7)

@@ -18,16 +18,18 @@ use Rattle.loading.specs.declared.Loaded.{Loaded}
 use Rattle.sheet.specs.Sheet.{filledCount, tableText, refusalText, loadedText}
 use Rattle.slot_lines.specs.Lines.{slotLines}
 
-pub refusal-length : (refusal position line : ℕ) → length (refusalText refusal position line)
-    ≡ length (digits refusal) + (length (digits position) + (length (digits line) + 23))
+pub refusal-length : (refusal position line column : ℕ) → length (refusalText refusal position line column)
+    ≡ length (digits refusal) + (length (digits position) + (length (digits line) + (length (digits column) + 31)))
 unfolding refusalText
-refusal-length refusal position line =
-    let last = lineText " line=" (digits line) in
+refusal-length refusal position line column =
+    let fourth = lineText " column=" (digits column) in
+    let third = item " line=" (digits line) ++ fourth in
     omega (
       arith,
-      item-length "refused=" (digits refusal) (item " record=" (digits position) ++ last),
-      item-length " record=" (digits position) last,
-      line-length " line=" (digits line),
+      item-length "refused=" (digits refusal) (item " record=" (digits position) ++ third),
+      item-length " record=" (digits position) third,
+      item-length " line=" (digits line) fourth,
+      line-length " column=" (digits column),
     )
 
 pub header-short : length (lineText "table=" (digits 32)) ≤ 9
@@ -68,6 +70,6 @@ module _ (l : Loaded) where
   unfolding loadedText
   text-loaded e = rw (eq-eqb (l .refusal) done e)
 
-  pub text-refused : (l .refusal ≡ done → ⊥) → loadedText l ≡ refusalText (l .refusal) (l .position) (l .line)
+  pub text-refused : (l .refusal ≡ done → ⊥) → loadedText l ≡ refusalText (l .refusal) (l .position) (l .line) (l .column)
   unfolding loadedText
   text-refused n = rw (ne-eqb (l .refusal) done n)

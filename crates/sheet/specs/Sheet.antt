@@ -22,13 +22,16 @@ unfoldable pub tableText : List Slot → List ℕ
 tableText table =
     lineText "table=" (digits (length table)) ++ (slotLines 1 table ++ lineText "filled=" (digits (filledCount table)))
 
-unfoldable pub refusalText : ℕ → ℕ → ℕ → List ℕ
-refusalText refusal position line =
-    item "refused=" (digits refusal) ++ (item " record=" (digits position) ++ lineText " line=" (digits line))
+unfoldable pub refusalText : ℕ → ℕ → ℕ → ℕ → List ℕ
+refusalText refusal position line column =
+    item "refused=" (digits refusal)
+    ++ (item " record=" (digits position)
+    ++ (item " line=" (digits line)
+    ++ lineText " column=" (digits column)))
 
 -- the table, or only the refusal
 unfoldable pub loadedText : Loaded → List ℕ
-loadedText l = pick (eqb (l .refusal) done) (tableText (l .table)) (refusalText (l .refusal) (l .position) (l .line))
+loadedText l = pick (eqb (l .refusal) done) (tableText (l .table)) (refusalText (l .refusal) (l .position) (l .line) (l .column))
 
 -- what is printed
 unfoldable pub listing : List ℕ → List ℕ

@@ -36,13 +36,14 @@ fn put_table(buffer: &mut [u8], table: [Slot; 32]) -> usize
     put_line(buffer, last, b"filled=", count)
 }
 
-fn put_refusal(buffer: &mut [u8], refusal: u8, position: usize, line: usize) -> usize
+fn put_refusal(buffer: &mut [u8], refusal: u8, position: usize, line: usize, column: usize) -> usize
     requires { ⌜ room ≤ length (now buffer) ⌝ }
-    ensures { λ r. ⌜ (r ≤ room) × Put (now (buffer .entry)) 0 (refusalText refusal position line) (now (buffer .exit)) r ⌝ }
+    ensures { λ r. ⌜ (r ≤ room) × Put (now (buffer .entry)) 0 (refusalText refusal position line column) (now (buffer .exit)) r ⌝ }
 {
     let record = put_item(buffer, 0, b"refused=", refusal as u64);
-    let last = put_item(buffer, record, b" record=", position as u64);
-    put_line(buffer, last, b" line=", line as u64)
+    let place = put_item(buffer, record, b" record=", position as u64);
+    let last = put_item(buffer, place, b" line=", line as u64);
+    put_line(buffer, last, b" column=", column as u64)
 }
 
 // The table, or only the refusal.
@@ -51,7 +52,13 @@ pub fn put_loaded(buffer: &mut [u8], loaded: Loaded) -> usize
     ensures { λ r. ⌜ (r ≤ room) × Put (now (buffer .entry)) 0 (loadedText loaded) (now (buffer .exit)) r ⌝ }
 {
     if loaded.refusal != refusals::DONE {
-        return put_refusal(buffer, loaded.refusal, loaded.position, loaded.line);
+        return put_refusal(
+            buffer,
+            loaded.refusal,
+            loaded.position,
+            loaded.line,
+            loaded.column,
+        );
     }
     let table = loaded.table;
     put_table(buffer, table)

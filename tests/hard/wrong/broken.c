@@ -62,7 +62,8 @@ enum {
     LISTS_ONE_MORE,
     LISTS_WITHOUT_ROOM,
     MISREADS_ODD_TABLE,
-    NUMBER_AFTER_BLOCKS
+    NUMBER_AFTER_BLOCKS,
+    COLUMN_ONE_MORE
 };
 
 #define IS(fault) (BREAK == (fault))
@@ -192,13 +193,15 @@ uint8_t WRAP(plain)(uint64_t algorithm, const uint8_t *key, size_t key_bytes, co
 }
 
 uint8_t WRAP(record_read)(const uint8_t *text, size_t text_bytes, uint64_t *shown, uint8_t *key, size_t *used,
-                          size_t *line)
+                          size_t *line, size_t *column)
 {
     const uint8_t *seen = IS(RECORD_BYTE_UNSEEN) ? mended(text, text_bytes, 6, '<') : text;
-    uint8_t answer = REAL(record_read)(seen, text_bytes, shown, key, used, line);
+    uint8_t answer = REAL(record_read)(seen, text_bytes, shown, key, used, line, column);
 
     if (IS(NO_LINE))
         *line = 0;
+    if (IS(COLUMN_ONE_MORE) && answer == CARD_RECORD_TEXT)
+        ++*column;
     if (IS(USED_ONE_MORE) && answer == CARD_DONE)
         ++*used;
     if (IS(RECORD_READ_LAX) && answer == CARD_DONE)

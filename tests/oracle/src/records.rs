@@ -16,6 +16,7 @@ pub unsafe extern "C" fn oracle_record_read(
     key: *mut Key,
     used: *mut usize,
     line: *mut usize,
+    column: *mut usize,
 ) -> u8 {
     let read = records::read(from_raw_parts(text, text_bytes));
     let fields = read.fields;
@@ -30,6 +31,7 @@ pub unsafe extern "C" fn oracle_record_read(
     *key = read.key;
     *used = read.length as usize;
     *line = read.line as usize;
+    *column = read.column as usize;
     read.refusal as u8
 }
 

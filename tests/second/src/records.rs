@@ -37,6 +37,8 @@ pub struct Record {
 pub struct Fault {
     /// The line, counted from 1.
     pub line: u64,
+    /// The byte of that line, counted from 1.
+    pub column: u64,
     /// The place of the first wrong byte in the text, or the text's length if it ends too early.
     pub place: usize,
 }
@@ -47,6 +49,7 @@ pub fn parse(input: &[u8]) -> Result<Record, Fault> {
         input,
         place: 0,
         line: 0,
+        line_start: 0,
     };
     let number = reader.number_line("number=", 1, SLOTS as u64)?;
     let version = reader.number_line("version=", 0, u64::from(u16::MAX))?;
@@ -74,6 +77,8 @@ struct Reader<'a> {
     input: &'a [u8],
     place: usize,
     line: u64,
+    /// The place of the line's first byte.
+    line_start: usize,
 }
 
 impl Reader<'_> {
@@ -116,6 +121,7 @@ impl Reader<'_> {
 
     fn begin_line(&mut self, name: &str) -> Result<(), Fault> {
         self.line += 1;
+        self.line_start = self.place;
         for letter in name.bytes() {
             self.take(|byte| (byte == letter).then_some(()))?;
         }
@@ -135,6 +141,7 @@ impl Reader<'_> {
             }
             None => Err(Fault {
                 line: self.line,
+                column: (self.place - self.line_start) as u64 + 1,
                 place: self.place,
             }),
         }
@@ -160,6 +167,8 @@ pub struct ReadRecordAnswer {
     pub refusal: Refusal,
     /// With refusal 15, the first line that is wrong or cut short; else 0.
     pub line: u64,
+    /// With refusal 15, the column of the first byte with which no good record can go on; else 0.
+    pub column: u64,
     pub number: u64,
     pub fields: Fields,
     pub key: Key,
@@ -172,6 +181,7 @@ pub fn read(input: &[u8]) -> ReadRecordAnswer {
         Ok(record) => ReadRecordAnswer {
             refusal: DONE,
             line: 0,
+            column: 0,
             number: record.number,
             fields: record.fields,
             key: record.key,
@@ -180,6 +190,7 @@ pub fn read(input: &[u8]) -> ReadRecordAnswer {
         Err(fault) => ReadRecordAnswer {
             refusal: RECORD_BAD,
             line: fault.line,
+            column: fault.column,
             ..ReadRecordAnswer::default()
         },
     }
@@ -256,6 +267,7 @@ struct Stop {
     refusal: Refusal,
     record: u64,
     line: u64,
+    column: u64,
 }
 
 impl Stop {
@@ -264,8 +276,9 @@ impl Stop {
             refusal,
             record,
             line,
+            column,
         } = self;
-        format!("refused={refusal} record={record} line={line}\n")
+        format!("refused={refusal} record={record} line={line} column={column}\n")
     }
 }
 
@@ -286,6 +299,7 @@ fn loaded_table(input: &[u8]) -> Result<Vec<Slot>, Stop> {
                 refusal,
                 record,
                 line: read.line,
+                column: read.column,
             });
         }
         rest = &rest[read.length as usize..];

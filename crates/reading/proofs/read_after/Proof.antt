@@ -80,7 +80,6 @@ read-after-spec =
     cast-value
     add-value
     (λ c. search needs)
-    (λ c. search needs)
     loop-again
     (λ c κs. search needs)
     returns-3)

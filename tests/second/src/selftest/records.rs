@@ -32,6 +32,7 @@ fn record_of_the_rules() -> Finding {
     let wanted = ReadRecordAnswer {
         refusal: DONE,
         line: 0,
+        column: 0,
         number: 3,
         fields: Fields {
             version: 17,
@@ -103,6 +104,7 @@ fn written_and_read_back() -> Finding {
         let wanted = ReadRecordAnswer {
             refusal: DONE,
             line: 0,
+            column: 0,
             number,
             fields,
             key,
@@ -152,7 +154,7 @@ fn write_order() -> Finding {
 }
 
 /// Parts of the good sheet, what stands in their place, and the line and column where it is wrong.
-const FAULTS: [(&str, &str, u64, usize); 24] = [
+const FAULTS: [(&str, &str, u64, u64); 24] = [
     ("number=3", "number=0", 1, 8),
     ("number=3", "number=33", 1, 9),
     ("number=3", "number=03", 1, 8),
@@ -186,6 +188,7 @@ fn lines_of_faults() -> Finding {
         let wanted = ReadRecordAnswer {
             refusal: RECORD_BAD,
             line,
+            column,
             ..ReadRecordAnswer::default()
         };
         same(spoiled, read(text.as_bytes()), wanted)?;
@@ -194,11 +197,15 @@ fn lines_of_faults() -> Finding {
             .take(line as usize - 1)
             .map(str::len)
             .sum();
-        let place = lines_before + column - 1;
+        let place = lines_before + column as usize - 1;
         same(
             spoiled,
             parse(text.as_bytes()).err(),
-            Some(Fault { line, place }),
+            Some(Fault {
+                line,
+                column,
+                place,
+            }),
         )?;
     }
     Ok(())
@@ -287,27 +294,44 @@ fn stops_rightly(good: &GoodLines, text: &[u8]) -> Finding {
             let lines = text[..record.length].iter().filter(|byte| **byte == b'\n');
             same(&shown, lines.count(), 7)
         }
-        Err(Fault { line, place }) => {
+        Err(Fault {
+            line,
+            column,
+            place,
+        }) => {
             same(&shown, good.begin(&text[..place]), true)?;
             same(
                 &shown,
                 place == text.len() || !good.begin(&text[..=place]),
                 true,
             )?;
-            let lines_before = text[..place].iter().filter(|byte| **byte == b'\n');
-            same(&shown, line, 1 + lines_before.count() as u64)
+            same(&shown, (line, column), line_and_column(&text[..place]))
         }
     }
 }
 
-/// Every beginning of a sheet is cut short at its end; the empty one in line 1.
+/// The line and the column that come after a text.
+fn line_and_column(before: &[u8]) -> (u64, u64) {
+    let line = 1 + before.iter().filter(|byte| **byte == b'\n').count();
+    let last = before
+        .rsplit(|byte| *byte == b'\n')
+        .next()
+        .unwrap_or(before);
+    (line as u64, 1 + last.len() as u64)
+}
+
+/// Every beginning of a sheet is cut short just past its end; the empty one in line 1, column 1.
 fn texts_cut_short() -> Finding {
-    same("empty input", read(b"").line, 1)?;
+    let empty = read(b"");
+    same("empty input", (empty.line, empty.column), (1, 1))?;
+    let ended = read(b"number=3\n");
+    same("after a line", (ended.line, ended.column), (2, 1))?;
     for length in 0..SHEET.len() {
         let text = &SHEET.as_bytes()[..length];
-        let line = 1 + text.iter().filter(|byte| **byte == b'\n').count() as u64;
+        let (line, column) = line_and_column(text);
         let wanted = Some(Fault {
             line,
+            column,
             place: length,
         });
         same("cut short", parse(text).err(), wanted)?;
@@ -344,21 +368,27 @@ fn slotlist_sheets() -> Finding {
 fn slotlist_refusals() -> Finding {
     let full: String = (1..=SLOTS).map(sheet_numbered).collect();
     for (input, wanted) in [
-        ("x".to_string(), "refused=15 record=1 line=1\n"),
-        (format!("{SHEET}\n"), "refused=15 record=2 line=1\n"),
+        ("x".to_string(), "refused=15 record=1 line=1 column=1\n"),
+        (
+            format!("{SHEET}\n"),
+            "refused=15 record=2 line=1 column=1\n",
+        ),
         (
             SHEET.replace("TEA6", "TEA4"),
-            "refused=15 record=1 line=3\n",
+            "refused=15 record=1 line=3 column=8\n",
         ),
-        (SHEET.repeat(2), "refused=9 record=2 line=0\n"),
+        (SHEET.repeat(2), "refused=9 record=2 line=0 column=0\n"),
         (
             format!("{LONG_SHEET}{}", &SHEET[..60]),
-            "refused=15 record=2 line=7\n",
+            "refused=15 record=2 line=7 column=7\n",
         ),
-        (format!("{full}{SHEET}"), "refused=9 record=33 line=0\n"),
+        (
+            format!("{full}{SHEET}"),
+            "refused=9 record=33 line=0 column=0\n",
+        ),
         (
             format!("{full}{}", "number=1".repeat(200)),
-            "refused=15 record=33 line=1\n",
+            "refused=15 record=33 line=1 column=9\n",
         ),
     ] {
         same(wanted, listed(&input), wanted.to_string())?;
