@@ -61,12 +61,11 @@ static void measure_size(const struct size *size, double medians[SHIFTS])
         medians[shift] = times_median(ratios[shift], ROUNDS);
 }
 
-/* Prints a line; returns 1 if its bar is missed. The bar is the median's over the shifts: the worst of 64 medians is the
-   machine's as much as the card's. */
+/* Prints a line; returns 1 if its bar is missed. The bar is of the worst of the shifts. */
 static int report_size(const struct size *size, double medians[SHIFTS])
 {
     double median = times_median(medians, SHIFTS), worst = medians[SHIFTS - 1];
-    int missed = median > size->bar;
+    int missed = worst > size->bar;
 
     printf("%6zu  traffic/card's bench call of as many blocks, over %d starts and skips: median %.2f, worst %.2f, at most "
            "%.2f  %s\n",
