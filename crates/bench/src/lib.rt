@@ -10,6 +10,7 @@ use ciphering::lent::iv_of;
 use ciphering::lent::key_of;
 use ciphering::span_refusals::span_refusal;
 use ciphering::xor::cipher_from;
+use refusals::refuse;
 
 // Whether keystream may be had under a key that comes with the call, by the bytes of key, initial value and buffer.
 pub fn keyed_refusal(
@@ -23,16 +24,19 @@ pub fn keyed_refusal(
 ) -> u8
     ensures { λ r. ⌜ r ≡ keyedRefusal algorithm key iv size start n skip ⌝ }
 {
-    if !fields::is_algorithm(algorithm) {
-        return refusals::ALGORITHM;
-    }
-    if key != 24 {
-        return refusals::BENCH_KEY;
-    }
-    if iv != 10 {
-        return refusals::IV_SIZE;
-    }
-    span_refusal(size, start, n, skip)
+    refuse(
+        !fields::is_algorithm(algorithm),
+        refusals::ALGORITHM,
+        refuse(
+            key != 24,
+            refusals::BENCH_KEY,
+            refuse(
+                iv != 10,
+                refusals::IV_SIZE,
+                span_refusal(size, start, n, skip),
+            ),
+        ),
+    )
 }
 
 fn bench_refusal(algorithm: u64, key: &[u8], iv: &[u8], buf: &[u8], n: usize) -> u8

@@ -1,7 +1,8 @@
 // The fields of a key, which may be shown, their ranges, and the refusals that load and record writing share.
 ghost use mathlib.Core.Path.{_≡_};
 ghost use mathlib.Core.Bool.{true};
-ghost use Rattle.fields.specs.Fields.{between, isSlotNumber, isAlgorithm, isUse, rightsRefusal, allInRange, storedOf};
+ghost use Rattle.fields.specs.Fields.{between, isSlotNumber, isAlgorithm, isUse, isSide, isPlace, rightsRefusal, allInRange, storedOf};
+use refusals::refuse;
 
 // As a slot holds them. Usage is 1 send, 2 receive, 3 both.
 #[repr(C)]
@@ -46,20 +47,31 @@ pub fn is_use(u: u64) -> bool
     lies_between(1, u, 3)
 }
 
+fn is_side(s: u64) -> bool
+    ensures { λ r. ⌜ r ≡ isSide s ⌝ }
+{
+    s <= 1
+}
+
+fn is_place(p: u64) -> bool
+    ensures { λ r. ⌜ r ≡ isPlace p ⌝ }
+{
+    p <= 79
+}
+
 // Refusals 10 and 11, in this order.
 pub fn rights_refusal(a: Asked) -> u8
     ensures { λ r. ⌜ r ≡ rightsRefusal a ⌝ }
 {
-    if !is_use(a.usage) {
-        return refusals::CODE;
-    }
-    if 1 < a.side {
-        return refusals::SIDE_OR_PLACE;
-    }
-    if 79 < a.place {
-        return refusals::SIDE_OR_PLACE;
-    }
-    refusals::DONE
+    refuse(
+        !is_use(a.usage),
+        refusals::CODE,
+        refuse(
+            !is_side(a.side),
+            refusals::SIDE_OR_PLACE,
+            refuse(!is_place(a.place), refusals::SIDE_OR_PLACE, refusals::DONE),
+        ),
+    )
 }
 
 // The fields in a slot's own widths.

@@ -1,30 +1,25 @@
--- `fields::rights_refusal`: each answer by the tests that led to it. Assumes nothing.
+-- `fields::rights_refusal`: each test is the definition's, and so is their order. Assumes nothing.
 use mathlib.Core.Bool.{not}
-use mathlib.Core.Path.{sym, ap, _∙_}
+use mathlib.Core.Path.{ap}
 use borrow.Author.Needs.{needs}
-use borrow.Author.Tests.{le-leb, lt-leb}
+use Rattle.laws.specs.Choice.{pick}
+use Rattle.laws.proofs.Cases.{pick-either}
+use Rattle.refusals.specs.Numbers.{done, codeUnknown, sideOrPlaceBad}
+use Rattle.fields.specs.Fields.{isUse, isSide, isPlace}
 use Rattle.fields.proofs.rights_refusal.Statement.{statement}
 use Rattle.fields.proofs.rights_refusal.Tie as tie
 
 returns : tie.Need-returns
-returns c = rw (ap not (sym (c .before .is-use .ensures)) ∙ c .if1 .taken)
-
-returns-2 : tie.Need-returns-2
-returns-2 c =
-    let u = c .before .before in
-    rw (ap not (sym (u .before .is-use .ensures)) ∙ u .if1 .left, lt-leb _ _ (c .if2 .taken))
-
-returns-3 : tie.Need-returns-3
-returns-3 c =
-    let s = c .before .before in
-    let u = s .before .before in
-    rw (ap not (sym (u .before .is-use .ensures)) ∙ u .if1 .left, le-leb _ _ (s .if2 .left), lt-leb _ _ (c .if3 .taken))
-
-returns-4 : tie.Need-returns-4
-returns-4 c =
-    let s = c .before .before in
-    let u = s .before .before in
-    rw (ap not (sym (u .before .is-use .ensures)) ∙ u .if1 .left, le-leb _ _ (s .if2 .left), le-leb _ _ (c .if3 .left))
+returns c =
+    let two = c .before in
+    let one = two .before in
+    let place = one .before in
+    let side = place .before in
+    let usage = side .before in
+    let a = usage .before .args .a in
+    rw (c .refuse3 .ensures, two .refuse2 .ensures, one .refuse .ensures, place .is-place .ensures, side .is-side .ensures, usage .is-use .ensures)
+    (ap (pick (not (isUse (a .usage))) codeUnknown) (pick-either (not (isSide (a .side))) (not (isPlace (a .place))) sideOrPlaceBad done))
 
 pub rights-refusal-spec : {M : Type 1} → statement M
-rights-refusal-spec = tie.close (tie.spec (λ c κs. search needs) returns returns-2 returns-3 returns-4)
+rights-refusal-spec =
+    tie.close (tie.spec (λ c κs. search needs) (λ c κs. search needs) (λ c κs. search needs) (λ c κs. search needs) (λ c κs. search needs) (λ c κs. search needs) returns)
