@@ -6,3 +6,4 @@ pub mod States
 pub mod Xor
 pub mod Bits
 pub mod Different
+pub mod InRows

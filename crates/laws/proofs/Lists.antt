@@ -74,3 +74,12 @@ tabulate-entries d l n e = sym (tabulate-ext (λ k. getD l k d) 0 n d l e (λ k 
 -- four rows, each by its equation
 pub four : {A : Type 0} {a b c d a′ b′ c′ d′ : A} → a ≡ a′ → b ≡ b′ → c ≡ c′ → d ≡ d′ → a ∷ b ∷ c ∷ d ∷ [] ≡ a′ ∷ b′ ∷ c′ ∷ d′ ∷ []
 four p q r s = λ i. p i ∷ q i ∷ r i ∷ s i ∷ []
+
+-- a loop that copies a list entry by entry
+
+-- b is filled with the entries of s below i
+abbrev pub Copied : List ℕ → ℕ → List ℕ → ℕ → Type 0
+Copied s n b i = Filled (λ k. getD s k 0) 0 n b i
+
+pub copied-all : {s b : List ℕ} {n i : ℕ} → Copied s n b i → n ≤ i → length s ≡ n → b ≡ s
+copied-all {s} {b} {n} g h e = fill-all g h ∙ tabulate-entries 0 s n e

@@ -8,20 +8,6 @@ use algorithms::combining_table;
 use algorithms::digit;
 use tea::mode::Mode;
 
-// f of the first four bits of a byte of CK and of a byte of IVX.
-fn first(f: &[u8; 256], c: u8, v: u8) -> u8
-    ensures { λ r. ⌜ r ≡ combined (now (f .entry)) (c / 16) (v / 16) ⌝ }
-{
-    f[(c / 16 * 16 + v / 16) as usize]
-}
-
-// f of their last four bits.
-fn second(f: &[u8; 256], c: u8, v: u8) -> u8
-    ensures { λ r. ⌜ r ≡ combined (now (f .entry)) (c % 16) (v % 16) ⌝ }
-{
-    f[(c % 16 * 16 + v % 16) as usize]
-}
-
 // The high halves of two results make a byte of CKM.
 fn key_byte(x: u8, y: u8) -> u8
     ensures { λ r. ⌜ r ≡ x / 16 * 16 + y / 16 ⌝ }
@@ -34,6 +20,20 @@ fn value_byte(x: u8, y: u8) -> u8
     ensures { λ r. ⌜ r ≡ x % 16 * 16 + y % 16 ⌝ }
 {
     x % 16 * 16 + y % 16
+}
+
+// f of the first four bits of a byte of CK and of a byte of IVX.
+fn first(f: &[u8; 256], c: u8, v: u8) -> u8
+    ensures { λ r. ⌜ r ≡ combined (now (f .entry)) (c / 16) (v / 16) ⌝ }
+{
+    f[(c / 16 * 16 + v / 16) as usize]
+}
+
+// f of their last four bits.
+fn second(f: &[u8; 256], c: u8, v: u8) -> u8
+    ensures { λ r. ⌜ r ≡ combined (now (f .entry)) (c % 16) (v % 16) ⌝ }
+{
+    f[(c % 16 * 16 + v % 16) as usize]
 }
 
 // By the lent table of f. Byte k of IVX is b[20 + k].

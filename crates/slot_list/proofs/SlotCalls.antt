@@ -7,7 +7,7 @@
 --     lends-put        `put_slot` on a `&κ mut [Slot]`, which is lent on for a lifetime that is made for the call, and had back
 --     with-seen        what a function asks that takes the two answers, and then the caller's own further parameters, some at one lifetime λ
 -- All that they know of the three functions is that each meets its contract. Assumes `Given`.
-use Rattle.slot_list.proofs.Walk.{_≡_, refl, sym, subst, ℕ, _<_, _^_, Bool, List, [], _∷_, length, URA, fullShare, named, w64, Val, vint, SProp, ent, sep, emp, id⊢, Fml, Lft, GName, Share, ftrue, flft, Memory, Routine, Heap, Env, Calls, Loops, Fun, Atoms, sem, Given, Item, ‵, raw, some, later, _⊛_, runs, _$_, _∵_, !, qed, move, drop, use1, use2, split, join, pick, rewrite, fsplit, fjoin, feqL, frame, await, done, lft-new, lft-end, FmC, RattleType, owns, Is, uint-makes, u8, u64, RefT, sliceVal, MutSlice, ShrSlice, Room, finally, owned, nothing, Contract, Triple}
+use Rattle.walks.proofs.Walk.{_≡_, refl, sym, subst, ℕ, _<_, _^_, Bool, List, [], _∷_, length, URA, fullShare, named, w64, Val, vint, SProp, ent, sep, emp, id⊢, Fml, Lft, GName, Share, ftrue, flft, Memory, Routine, Heap, Env, Calls, Loops, Fun, Atoms, sem, Given, Item, ‵, raw, some, later, _⊛_, runs, _$_, _∵_, !, qed, move, drop, use1, use2, split, join, pick, rewrite, fsplit, fjoin, feqL, frame, await, done, lft-new, lft-end, FmC, RattleType, owns, Is, uint-makes, u8, u64, RefT, sliceVal, MutSlice, ShrSlice, Room, finally, owned, nothing, Contract, Triple}
 use mir.Syntax.{Opd as Operand, Place, Body, seq, call}
 use types.Kit.{Post, Seq, lands}
 use types.Run.{Opds}
@@ -18,8 +18,8 @@ use denote.Slice.{shr-slice-copy}
 use Rattle.slots.specs.declared.Slot.{Slot}
 use Rattle.slots.specs.declared.Put.{Put}
 use Rattle.slot_list.specs.List.{isNoTable, slotIn, putIn}
-use Rattle.slot_list.proofs.CallRules.{Of, calls-fn}
-use Rattle.slot_list.proofs.Shared.{LentShared, lends-shared, shared-back}
+use Rattle.walks.proofs.CallRules.{Of, calls-fn}
+use Rattle.walks.proofs.Shared.{LentShared, lends-shared, shared-back}
 use Rattle.slot_list.proofs.LentOn.{Meanwhile, lends-on, has-back}
 use Rattle.slot_list.proofs.SlotLaws.{R, makes, Res, res-makes}
 use Rattle.slot_list.proofs.is_no_table as is-no-table

@@ -1,1 +1,2 @@
 pub mod MixingRule
+pub mod Halves

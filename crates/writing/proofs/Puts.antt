@@ -1,6 +1,6 @@
 -- Texts put into a buffer one after the other. Assumes nothing.
 use mathlib.Core.Path.{_≡_, refl, sym, ap, subst, _∙_}
-use mathlib.Core.List.{List, [], _∷_, _++_}
+use mathlib.Core.List.{List, [], _∷_, _++_, append-assoc}
 use Prim.Native.Nat.{ℕ, suc, _+_, _*_, _≤_, _<_, _/_, _%_}
 use native.Mathlib.Numerals.{add-one}
 use native.Mathlib.Omega.{arith}
@@ -114,3 +114,14 @@ module _ {b b′ : List ℕ} {at end : ℕ} (l : List ℕ) (i : ℕ) (room : Roo
 
   pub hex-whole : length l ≤ i → Put b at (hexText l) b′ end
   hex-whole h = put-as (ap hexText (take-all i l h)) some
+
+-- a line: the name and the value, and then its end
+module _ (name value end : List ℕ) where
+  pub ended-first : {b : List ℕ} {at : ℕ} → Room b at (name ++ (value ++ end)) → Room b at (name ++ value)
+  ended-first h = room-first end (room-as (sym (append-assoc name value end)) h)
+
+  pub ended-then : {b c : List ℕ} {at e : ℕ} → Put b at (name ++ value) c e → Room b at (name ++ (value ++ end)) → Room c e end
+  ended-then p h = room-then p (room-as (sym (append-assoc name value end)) h)
+
+  pub ended-put : {b c d : List ℕ} {at e r : ℕ} → Put b at (name ++ value) c e → Put c e end d r → Put b at (name ++ (value ++ end)) d r
+  ended-put p q = put-as (append-assoc name value end) (put-then p q)

@@ -1,51 +1,24 @@
--- `plain_rijndael::to_state`: cell by cell, `Rows`. Assumes nothing.
-use mathlib.Core.Path.{_≡_, refl}
-use Prim.Native.Nat.{_+_, _-_, _*_, _<_, _≤_}
-use native.Mathlib.Omega.{arith}
+-- `plain_rijndael::to_state`: cell by cell. Assumes nothing.
+use mathlib.Core.List.{List}
+use mathlib.Core.Path.{refl}
+use Prim.Native.Nat.{ℕ, _+_, _-_, _*_}
 use borrow.Author.Needs.{needs}
 use lib.ListN.{getD}
 use Rattle.rijndael.specs.Cipher.{toState}
-use Rattle.laws.proofs.States.{Rows, rows-none, rows-more, rows-next, rows-all, zero-shape}
+use Rattle.laws.proofs.States.{zero-shape}
+use Rattle.laws.proofs.InRows.{InRow, InRows, in-rows-none, in-row-none, in-row-more, in-rows-more, in-rows-all}
 use Rattle.plain_rijndael.proofs.to_state.Statement.{statement}
 use Rattle.plain_rijndael.proofs.to_state.Tie as tie
 
-abbrev Inv-loop2 : tie.InvT-loop2
-Inv-loop2 b s₀ r c₀ s c = (r < 4) × ((c ≤ 8) × Rows (λ r c. getD b (4 * c + r) 0) s r c)
-
-abbrev μ-loop2 : tie.MeasureT-loop2
-μ-loop2 b s₀ r c₀ s c = 8 - c
-
-abbrev Inv-loop : tie.InvT-loop
-Inv-loop b s₀ r₀ s r = (r ≤ 4) × Rows (λ r c. getD b (4 * c + r) 0) s r 0
-
-abbrev μ-loop : tie.MeasureT-loop
-μ-loop b s₀ r₀ s r = 4 - r
-
-loop-holds : tie.Need-loop-holds Inv-loop2 μ-loop2 Inv-loop μ-loop
-loop-holds c = (search needs, rows-none (zero-shape))
-
-loop2-holds : tie.Need-loop2-holds Inv-loop2 μ-loop2 Inv-loop μ-loop
-loop2-holds c = (c .loop-test .taken, (search needs, c .before .loop .inv .1))
-
-loop2-again : tie.Need-loop2-again Inv-loop2 μ-loop2 Inv-loop μ-loop
-loop2-again c =
-    let g = c .before .loop2 .inv in
-    (g .0, (search needs, rows-more (g .1 .1) (g .0) (c .loop2-test .taken) _ refl))
-
-loop-again : tie.Need-loop-again Inv-loop2 μ-loop2 Inv-loop μ-loop
-loop-again c =
-    let g = c .before .loop2 .inv in
-    let e : c .before .loop2 .c ≡ 8 = omega arith in
-    (search needs, rows-next _ _ (g .1 .1) e)
-
-returns : tie.Need-returns Inv-loop2 μ-loop2 Inv-loop μ-loop
-unfolding toState
-returns c = rows-all (c .before .loop .inv .1) (c .loop-test .left)
+abbrev taken : List ℕ → ℕ → ℕ → ℕ
+taken b r c = getD b (4 * c + r) 0
 
 pub to-state-spec : {M : Type 1} → statement M
+unfolding toState
 to-state-spec =
     tie.close
     (tie.spec
-    Inv-loop2 μ-loop2 Inv-loop μ-loop loop-holds loop2-holds (λ c. search needs) (λ c. search needs) (λ c. search needs) (λ c. search needs)
-    (λ c. search needs) (λ c. search needs) (λ c. search needs) (λ c. search needs) loop2-again (λ c. search needs) (λ c. search needs) loop-again
-    returns)
+    (λ b s₀ r c₀ s c. InRow (taken b) s r c) (λ b s₀ r c₀ s c. 8 - c) (λ b s₀ r₀ s r. InRows (taken b) s r) (λ b s₀ r₀ s r. 4 - r)
+    (λ c. in-rows-none zero-shape) (λ c. in-row-none (c .before .loop .inv) (c .loop-test .taken)) (λ c. search needs) (λ c. search needs) (λ c. search needs) (λ c. search needs)
+    (λ c. search needs) (λ c. search needs) (λ c. search needs) (λ c. search needs) (λ c. in-row-more (c .before .loop2 .inv) (c .loop2-test .taken) _ refl) (λ c. search needs) (λ c. search needs)
+    (λ c. in-rows-more (c .before .loop2 .inv) (c .loop2-test .left)) (λ c. in-rows-all (c .before .loop .inv) (c .loop-test .left)))

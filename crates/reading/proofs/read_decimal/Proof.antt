@@ -47,16 +47,5 @@ pub read-decimal-spec : {M : Type 1} → statement M
 read-decimal-spec =
     tie.close
     (tie.spec
-    (λ c κs. search needs)
-    returns
-    (λ c κs. search needs)
-    returns-2
-    (λ c. search needs)
-    (λ c κs. search needs)
-    (λ c κs. search needs)
-    returns-3
-    (λ c. search needs)
-    sub-read-after
-    cast-read-after
-    (λ c κs. search needs)
-    returns-4)
+    (λ c κs. search needs) returns (λ c κs. search needs) returns-2 (λ c. search needs) (λ c κs. search needs) (λ c κs. search needs) returns-3
+    (λ c. search needs) sub-read-after cast-read-after (λ c κs. search needs) returns-4)

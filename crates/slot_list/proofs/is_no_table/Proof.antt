@@ -1,7 +1,7 @@
 -- `slot_list::is_no_table` meets its contract: a walk of its MIR, by hand, with a loop. Each turn reads one slot through the borrow and asks `has_no_fields`; then it reads it again and hands it to `or_bad`, which looks at the key, or to `or_unfilled`, which does not.
 -- A state of the loop is the count i, and whether a slot before i is bad (`BadTurns`).
 -- All that it knows of the three is that each meets its contract. Assumes nothing.
-use Rattle.slot_list.proofs.Walk.{_≡_, refl, sym, _∙_, ap, ℕ, _<_, eq-or-lt-of-le, arith, Bool, ⊎-elim, List, [], _∷_, lit<, length, getD, URA, fullShare, Ty, named, imm, w64, tyPtr, tyInt, tyBool, tyRef, Val, vbool, vint, vptr, SProp, ent, emp, via, fst∗, id⊢, Lft, GName, Share, ftrue, fat, froom, fdies, flft, Memory, Routine, Heap, Env, Calls, Loops, WpFn, Tables, afterTurn, afterSeq, afterBlock, atReturn, Wp, Atoms, Fun, givenOf, tables, tablesOf, Given, Item, Sq, ‵, raw, _⊛_, ⋆, anyQ, atRet, runs, _$_, _∵_, !, qed, by, move, keep, drop, use0, split, join, rewrite, fsplit, fjoin, suffices, frame, done, whole, sub, look-in, look, look-raw, init, store, forget, stop, hop, fld, from, load, lit, of-opd, bin, and-then, no-more, assigns, assigns-last, land, first, branches, skips, blocks, stays, leaves-loop, loops, again, Below, exec, returns, enter, alloc1, alloc0, params1, pass1, pass0, free1, free0, FmC, fmOf, WpFn-mono, owns, Is, shows, pointee, RefT, sliceVal, sliceTy, ShrSlice, Room, slice-vals, shr-slice-tells, place-is, elem-out, elem-back, looks-slice, shuts-slice, plainly, owned, Vals, onEntry, Meets, tripleOf, Contract, Triple, entered, cited, says, Stays, stay-none-slice, walkOf, goes-none-slice, ends-at, walked, walk-meets, yes, lt-ltb, le-ltb, Holds, eqb→eq}
+use Rattle.walks.proofs.Walk.{_≡_, refl, sym, _∙_, ap, ℕ, _<_, eq-or-lt-of-le, arith, Bool, ⊎-elim, List, [], _∷_, lit<, length, getD, URA, fullShare, Ty, named, imm, w64, tyPtr, tyInt, tyBool, tyRef, Val, vbool, vint, vptr, SProp, ent, emp, via, fst∗, id⊢, Lft, GName, Share, ftrue, fat, froom, fdies, flft, Memory, Routine, Heap, Env, Calls, Loops, WpFn, Tables, afterTurn, afterSeq, afterBlock, atReturn, Wp, Atoms, Fun, givenOf, tables, tablesOf, Given, Item, Sq, ‵, raw, _⊛_, ⋆, anyQ, atRet, runs, _$_, _∵_, !, qed, by, move, keep, drop, use0, split, join, rewrite, fsplit, fjoin, suffices, frame, done, whole, sub, look-in, look, look-raw, init, store, forget, stop, hop, fld, from, load, lit, of-opd, bin, and-then, no-more, assigns, assigns-last, land, first, branches, skips, blocks, stays, leaves-loop, loops, again, Below, exec, returns, enter, alloc1, alloc0, params1, pass1, pass0, free1, free0, FmC, fmOf, WpFn-mono, owns, Is, shows, pointee, RefT, sliceVal, sliceTy, ShrSlice, Room, slice-vals, shr-slice-tells, place-is, elem-out, elem-back, looks-slice, shuts-slice, plainly, owned, Vals, onEntry, Meets, tripleOf, Contract, Triple, entered, cited, says, Stays, stay-none-slice, walkOf, goes-none-slice, ends-at, walked, walk-meets, yes, lt-ltb, le-ltb, Holds, eqb→eq}
 use mathlib.Core.Bool.{true, _||_, not}
 use types.Kit as Kit
 use types.Run.{true-lit, false-lit}
@@ -11,10 +11,10 @@ use denote.Plain.{bool-makes, bool-lawful}
 use Rattle.slots.specs.declared.Slot.{Slot}
 use Rattle.slots.specs.Slots.{nil, isNoFields, isFilled, isBad, hasBad}
 use Rattle.slot_list.specs.List.{isTable, isNoTable}
-use Rattle.slot_list.proofs.CallRules.{plain, Of, calls-fn}
+use Rattle.walks.proofs.CallRules.{plain, Of, calls-fn}
 use Rattle.slot_list.proofs.SlotLaws.{R, slotTy, vals, tells, makes, copies, typed}
 use Rattle.slot_list.proofs.BadTurns.{Turn, less, less-wf, begin, onward, all-tested, shown-bad, asked-yes, asked-no}
-use Rattle.slot_list.proofs.Heads.{same-value}
+use Rattle.walks.proofs.Heads.{same-value}
 use Rattle.slots.proofs.has_no_fields as has-no-fields
 use Rattle.slots.proofs.has_no_fields.Symbol as has-no-fields-def
 use Rattle.slots.proofs.has_no_fields.Symbol.{name as #has-no-fields}

@@ -1,15 +1,15 @@
 -- `slot_list::put_slot` meets its contract: a walk of its MIR, by hand. Where there is such a place, the borrow is opened, the slot is stored there, and the borrow is closed.
 -- All that it knows of `place_to`, `slot_of` and `refusal_of` is that each meets its contract. Assumes nothing.
-use Rattle.slot_list.proofs.Walk.{_≡_, refl, sym, _∙_, ap, subst, ℕ, _<_, _^_, arith, List, [], _∷_, length, set, length-set, URA, fullShare, Ty, named, mut, w8, w64, tyPtr, tyInt, tyBool, tyRef, Val, vbool, vint, vptr, SProp, ent, emp, via, fst∗, id⊢, Lft, GName, Share, ftrue, fat, froom, fdies, flft, fobs, fbor, Memory, Routine, Heap, Env, Calls, Loops, WpFn, Tables, Atoms, Fun, givenOf, tables, tablesOf, Given, Item, Sq, ‵, raw, _⊛_, ⋆, atRet, runs, _$_, _∵_, !, qed, by, move, keep, drop, use0, split, join, rewrite, fsplit, fjoin, suffices, frame, done, whole, sub, look-in, look, init, store, store-raw, forget, stop, hop, fld, from, load, lit, of-opd, bin, and-then, no-more, assigns, assigns-last, land, first, branches, skips, exec, returns, enter, alloc1, alloc0, params1, pass1, pass0, free1, free0, FmC, fmOf, WpFn-mono, owns, Is, shows, pointee, uint-makes, uint-lawful, uint-vals, uint-tells, u8, u64, usize, RefT, sliceVal, sliceTy, MutSlice, Room, heres, codedHoleys, at-slice, slice-vals, mut-slice-tells, Held, pureI, place-is, elem-out, elem-put, opens-slice, closes-slice, plainly, owned, nothing, Vals, onEntry, Meets, tripleOf, Contract, Triple, entered, cited, says, Stays, stay-slice, stay-dropped, walkOf, goes-slice, goes-dropped, ends-at, walked, walk-meets, yes}
+use Rattle.walks.proofs.Walk.{_≡_, refl, sym, _∙_, ap, subst, ℕ, _<_, _^_, arith, List, [], _∷_, length, set, length-set, URA, fullShare, Ty, named, mut, w8, w64, tyPtr, tyInt, tyBool, tyRef, Val, vbool, vint, vptr, SProp, ent, emp, via, fst∗, id⊢, Lft, GName, Share, ftrue, fat, froom, fdies, flft, fobs, fbor, Memory, Routine, Heap, Env, Calls, Loops, WpFn, Tables, Atoms, Fun, givenOf, tables, tablesOf, Given, Item, Sq, ‵, raw, _⊛_, ⋆, atRet, runs, _$_, _∵_, !, qed, by, move, keep, drop, use0, split, join, rewrite, fsplit, fjoin, suffices, frame, done, whole, sub, look-in, look, init, store, store-raw, forget, stop, hop, fld, from, load, lit, of-opd, bin, and-then, no-more, assigns, assigns-last, land, first, branches, skips, exec, returns, enter, alloc1, alloc0, params1, pass1, pass0, free1, free0, FmC, fmOf, WpFn-mono, owns, Is, shows, pointee, uint-makes, uint-lawful, uint-vals, uint-tells, u8, u64, usize, RefT, sliceVal, sliceTy, MutSlice, Room, heres, codedHoleys, at-slice, slice-vals, mut-slice-tells, Held, pureI, place-is, elem-out, elem-put, opens-slice, closes-slice, plainly, owned, nothing, Vals, onEntry, Meets, tripleOf, Contract, Triple, entered, cited, says, Stays, stay-slice, stay-dropped, walkOf, goes-slice, goes-dropped, ends-at, walked, walk-meets, yes}
 use lib.Dec.{ltb, ltb→lt}
 use Rattle.laws.proofs.Cases.{pick-yes, pick-no}
 use Rattle.slots.specs.declared.Slot.{Slot}
 use Rattle.slots.specs.declared.Put.{Put}
 use Rattle.slots.specs.Slots.{nil}
 use Rattle.slot_list.specs.List.{placeTo, putIn}
-use Rattle.slot_list.proofs.CallRules.{plain, Of, calls-fn}
+use Rattle.walks.proofs.CallRules.{plain, Of, calls-fn}
 use Rattle.slot_list.proofs.SlotLaws.{R, slotTy, vals, tells, makes, typed, Res, resTy, res-vals, res-tells, res-makes, res-typed}
-use Rattle.slot_list.proofs.Heads.{same-value}
+use Rattle.walks.proofs.Heads.{same-value}
 use Rattle.slot_list.proofs.place_to as place-to
 use Rattle.slot_list.proofs.place_to.Symbol as place-to-def
 use Rattle.slot_list.proofs.place_to.Symbol.{name as #place-to}

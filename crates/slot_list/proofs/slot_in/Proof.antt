@@ -1,15 +1,15 @@
 -- `slot_list::slot_in` meets its contract: a walk of its MIR, by hand. Where there is such a place, the record there is read through the borrow as a whole.
 -- All that it knows of `empty_slot` and `place_of` is that each meets its contract. Assumes nothing.
-use Rattle.slot_list.proofs.Walk.{_≡_, refl, sym, _∙_, ap, subst, ℕ, _<_, _^_, arith, List, [], _∷_, length, getD, URA, fullShare, Ty, named, imm, w64, tyPtr, tyInt, tyBool, tyRef, Val, vbool, vint, vptr, SProp, ent, emp, via, fst∗, id⊢, Lft, GName, Share, ftrue, fat, froom, fdies, flft, Memory, Routine, Heap, Env, Calls, Loops, WpFn, Tables, Atoms, Fun, givenOf, tables, tablesOf, Given, Item, Sq, ‵, raw, _⊛_, ⋆, atRet, runs, _$_, _∵_, !, qed, by, move, keep, drop, use0, split, join, rewrite, fsplit, fjoin, suffices, frame, done, whole, sub, look-in, look, look-raw, init, store, forget, stop, hop, fld, from, load, lit, of-opd, bin, and-then, no-more, assigns, assigns-last, land, first, branches, skips, exec, returns, enter, alloc1, alloc0, params1, pass1, pass0, free1, free0, FmC, fmOf, WpFn-mono, owns, Is, shows, pointee, uint-makes, uint-lawful, uint-vals, uint-tells, u64, usize, RefT, sliceVal, sliceTy, ShrSlice, Room, slice-vals, shr-slice-tells, place-is, elem-out, elem-back, looks-slice, shuts-slice, plainly, owned, Vals, onEntry, Meets, tripleOf, Contract, Triple, entered, cited, says, Stays, stay-none-slice, walkOf, goes-none-slice, ends-at, walked, walk-meets, yes}
+use Rattle.walks.proofs.Walk.{_≡_, refl, sym, _∙_, ap, subst, ℕ, _<_, _^_, arith, List, [], _∷_, length, getD, URA, fullShare, Ty, named, imm, w64, tyPtr, tyInt, tyBool, tyRef, Val, vbool, vint, vptr, SProp, ent, emp, via, fst∗, id⊢, Lft, GName, Share, ftrue, fat, froom, fdies, flft, Memory, Routine, Heap, Env, Calls, Loops, WpFn, Tables, Atoms, Fun, givenOf, tables, tablesOf, Given, Item, Sq, ‵, raw, _⊛_, ⋆, atRet, runs, _$_, _∵_, !, qed, by, move, keep, drop, use0, split, join, rewrite, fsplit, fjoin, suffices, frame, done, whole, sub, look-in, look, look-raw, init, store, forget, stop, hop, fld, from, load, lit, of-opd, bin, and-then, no-more, assigns, assigns-last, land, first, branches, skips, exec, returns, enter, alloc1, alloc0, params1, pass1, pass0, free1, free0, FmC, fmOf, WpFn-mono, owns, Is, shows, pointee, uint-makes, uint-lawful, uint-vals, uint-tells, u64, usize, RefT, sliceVal, sliceTy, ShrSlice, Room, slice-vals, shr-slice-tells, place-is, elem-out, elem-back, looks-slice, shuts-slice, plainly, owned, Vals, onEntry, Meets, tripleOf, Contract, Triple, entered, cited, says, Stays, stay-none-slice, walkOf, goes-none-slice, ends-at, walked, walk-meets, yes}
 use lib.Dec.{ltb, ltb→lt}
 use denote.Triple.Walked.{stay-none, goes-none}
 use Rattle.laws.proofs.Cases.{pick-yes, pick-no}
 use Rattle.slots.specs.declared.Slot.{Slot}
 use Rattle.slots.specs.Slots.{nil, empty}
 use Rattle.slot_list.specs.List.{placeOf, slotIn}
-use Rattle.slot_list.proofs.CallRules.{plain, Of, calls-fn}
+use Rattle.walks.proofs.CallRules.{plain, Of, calls-fn}
 use Rattle.slot_list.proofs.SlotLaws.{R, slotTy, vals, tells, makes, copies, typed}
-use Rattle.slot_list.proofs.Heads.{same-value}
+use Rattle.walks.proofs.Heads.{same-value}
 use Rattle.slots.proofs.empty_slot as empty-slot
 use Rattle.slots.proofs.empty_slot.Symbol as empty-slot-def
 use Rattle.slots.proofs.empty_slot.Symbol.{name as #empty-slot}

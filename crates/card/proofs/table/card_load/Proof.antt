@@ -1,6 +1,6 @@
 -- `card::table::card_load` meets its contract: a walk of its MIR, by hand. The borrow is lent to `is_no_table` and `slot_in` and comes back, `load_from` works on values and on the key behind its `&`, and the borrow goes to `put_slot` for good. There are two lifetimes, κ of t and λ of key.
 -- All that it knows of the four is that each meets its contract. Assumes nothing.
-use Rattle.slot_list.proofs.Walk.{_≡_, refl, ℕ, _<_, _^_, List, [], _∷_, length, URA, named, w8, w16, w64, Val, vint, vptr, SProp, ent, emp, via, fst∗, id⊢, Lft, GName, Share, ftrue, flft, Memory, Routine, Heap, Calls, Loops, WpFn, Tables, Atoms, Fun, givenOf, tables, tablesOf, Given, ‵, raw, _⊛_, ⋆, _$_, _∵_, !, qed, by, move, drop, use1, use2, split, join, fsplit, fjoin, suffices, frame, done, agg, whole, sub, look-in, look, init, forget, stop, hop, fld, from, load, addr, and-then, no-more, assigns, land, returns, enter, alloc1, alloc0, params1, pass1, pass0, free1, free0, FmC, fmOf, WpFn-mono, RattleType, owns, Array, Is, uint-makes, uint-lawful, uint-vals, uint-tells, u8, u16, u64, RefT, ShrRef, ptr-vals, shr-tells, MutSlice, Room, finally, slice-vals, mut-slice-tells, plainly, shrRefTo, owned, nothing, Vals, onEntry, Meets, tripleOf, Contract, Triple, entered, cited, says, Stays, gave-slice, stay-dropped, walkOf, goes-gave-slice, goes-dropped, ends-at, walked, walk-meets, yes}
+use Rattle.walks.proofs.Walk.{_≡_, refl, ℕ, _<_, _^_, List, [], _∷_, length, URA, named, w8, w16, w64, Val, vint, vptr, SProp, ent, emp, via, fst∗, id⊢, Lft, GName, Share, ftrue, flft, Memory, Routine, Heap, Calls, Loops, WpFn, Tables, Atoms, Fun, givenOf, tables, tablesOf, Given, ‵, raw, _⊛_, ⋆, _$_, _∵_, !, qed, by, move, drop, use1, use2, split, join, fsplit, fjoin, suffices, frame, done, agg, whole, sub, look-in, look, init, forget, stop, hop, fld, from, load, addr, and-then, no-more, assigns, land, returns, enter, alloc1, alloc0, params1, pass1, pass0, free1, free0, FmC, fmOf, WpFn-mono, RattleType, owns, Array, Is, uint-makes, uint-lawful, uint-vals, uint-tells, u8, u16, u64, RefT, ShrRef, ptr-vals, shr-tells, MutSlice, Room, finally, slice-vals, mut-slice-tells, plainly, shrRefTo, owned, nothing, Vals, onEntry, Meets, tripleOf, Contract, Triple, entered, cited, says, Stays, gave-slice, stay-dropped, walkOf, goes-gave-slice, goes-dropped, ends-at, walked, walk-meets, yes}
 use denote.RattleType.{Denots, Valss}
 use Rattle.fields.specs.declared.Asked.{Asked}
 use Rattle.slots.specs.declared.Slot.{Slot}
@@ -8,7 +8,7 @@ use Rattle.slots.specs.Seen.{loadPut}
 use Rattle.card.specs.Faces.{asking}
 use Rattle.slot_list.specs.List.{isNoTable, slotIn}
 use Rattle.card.specs.Table.{loadedIn}
-use Rattle.slot_list.proofs.CallRules.{Of, calls-fn}
+use Rattle.walks.proofs.CallRules.{Of, calls-fn}
 use denote.Plain.{bool-lawful}
 use Rattle.slot_list.proofs.SlotLaws.{R, typed, res-typed}
 use Rattle.slot_list.proofs.SlotCalls.{IsNoTable, SlotIn, PutSlot, lent, slice, lends-ask, lends-take, puts-slot, with-seen}

@@ -1,11 +1,11 @@
 -- `card::table::card_move` meets its contract: a walk of its MIR, by hand. The borrow is lent to `is_no_table` and `slot_in` and comes back, `move_of` works on values, and the borrow goes to `put_slot` for good.
 -- All that it knows of the four is that each meets its contract. Assumes nothing.
-use Rattle.slot_list.proofs.Walk.{_≡_, refl, ℕ, _<_, _^_, List, [], _∷_, length, URA, named, w8, w64, Val, vint, SProp, ent, sep, emp, via, fst∗, id⊢, Lft, GName, Share, ftrue, flft, Memory, Routine, Heap, Calls, Loops, WpFn, Tables, Atoms, sem, Fun, givenOf, tables, tablesOf, Given, ‵, raw, _⊛_, _$_, _∵_, !, qed, by, move, drop, use0, split, join, fsplit, fjoin, suffices, frame, done, agg, whole, sub, look-in, look, init, forget, stop, hop, fld, from, load, addr, and-then, no-more, assigns, land, returns, enter, alloc1, alloc0, params1, pass1, pass0, free1, free0, FmC, fmOf, WpFn-mono, owns, Is, uint-makes, uint-lawful, uint-vals, uint-tells, u8, u64, RefT, MutSlice, Room, finally, slice-vals, mut-slice-tells, plainly, owned, nothing, Vals, onEntry, Meets, tripleOf, Contract, Triple, entered, cited, says, Stays, gave-slice, stay-dropped, walkOf, goes-gave-slice, goes-dropped, ends-at, walked, walk-meets, yes, rewrite, _∙_, sym, fat, fullShare, sliceVal, sliceTy, tyRef, mut, pointee, Ty}
+use Rattle.walks.proofs.Walk.{_≡_, refl, ℕ, _<_, _^_, List, [], _∷_, length, URA, named, w8, w64, Val, vint, SProp, ent, sep, emp, via, fst∗, id⊢, Lft, GName, Share, ftrue, flft, Memory, Routine, Heap, Calls, Loops, WpFn, Tables, Atoms, sem, Fun, givenOf, tables, tablesOf, Given, ‵, raw, _⊛_, _$_, _∵_, !, qed, by, move, drop, use0, split, join, fsplit, fjoin, suffices, frame, done, agg, whole, sub, look-in, look, init, forget, stop, hop, fld, from, load, addr, and-then, no-more, assigns, land, returns, enter, alloc1, alloc0, params1, pass1, pass0, free1, free0, FmC, fmOf, WpFn-mono, owns, Is, uint-makes, uint-lawful, uint-vals, uint-tells, u8, u64, RefT, MutSlice, Room, finally, slice-vals, mut-slice-tells, plainly, owned, nothing, Vals, onEntry, Meets, tripleOf, Contract, Triple, entered, cited, says, Stays, gave-slice, stay-dropped, walkOf, goes-gave-slice, goes-dropped, ends-at, walked, walk-meets, yes, rewrite, _∙_, sym, fat, fullShare, sliceVal, sliceTy, tyRef, mut, pointee, Ty}
 use Rattle.slots.specs.declared.Slot.{Slot}
 use Rattle.slots.specs.Seen.{movePut, emptiedBy}
 use Rattle.slot_list.specs.List.{isNoTable, slotIn}
 use Rattle.card.specs.Table.{movedIn}
-use Rattle.slot_list.proofs.CallRules.{plain, Of, calls-fn}
+use Rattle.walks.proofs.CallRules.{plain, Of, calls-fn}
 use mir.Syntax.{erased}
 use denote.Builtin.{bool}
 use denote.Plain.{bool-makes, bool-lawful}

@@ -1,6 +1,6 @@
 -- `card::table::card_read` meets its contract: a walk of its MIR, by hand. `is_no_table` and `slot_in` look at the lent table where it lies, and `show_from` has what they saw and the six places for the answer, for good. There are two lifetimes, κ of t and λ of the six places.
 -- All that it knows of the three is that each meets its contract. Assumes nothing.
-use Rattle.slot_list.proofs.Walk.{_≡_, refl, _∙_, ℕ, _<_, _^_, List, [], _∷_, length, URA, named, w8, w64, Val, vint, vptr, SProp, ent, emp, via, fst∗, id⊢, Lft, GName, Share, ftrue, flft, Memory, Routine, Heap, Calls, Loops, WpFn, Tables, Atoms, Fun, givenOf, tables, tablesOf, Given, Item, ‵, raw, _⊛_, ⋆, _$_, _∵_, !, qed, by, move, drop, use1, use2, split, join, fsplit, suffices, frame, done, look, init, forget, stop, hop, from, load, addr, and-then, no-more, assigns, land, returns, enter, alloc1, alloc0, params1, pass1, pass0, free1, free0, FmC, fmOf, WpFn-mono, RattleType, owns, Is, uint-makes, uint-lawful, uint-vals, uint-tells, u8, u16, u64, RefT, MutRef, ptr-vals, mut-tells, ShrSlice, Room, slice-vals, shr-slice-tells, plainly, shrSliceOf, owned, Vals, onEntry, Meets, tripleOf, lasts, Contract, Triple, entered, cited, says, Stays, gave-ref, stay-dropped, walkOf, goes-gave-ref, goes-dropped, ends-at, walked, walk-meets, yes}
+use Rattle.walks.proofs.Walk.{_≡_, refl, _∙_, ℕ, _<_, _^_, List, [], _∷_, length, URA, named, w8, w64, Val, vint, vptr, SProp, ent, emp, via, fst∗, id⊢, Lft, GName, Share, ftrue, flft, Memory, Routine, Heap, Calls, Loops, WpFn, Tables, Atoms, Fun, givenOf, tables, tablesOf, Given, Item, ‵, raw, _⊛_, ⋆, _$_, _∵_, !, qed, by, move, drop, use1, use2, split, join, fsplit, suffices, frame, done, look, init, forget, stop, hop, from, load, addr, and-then, no-more, assigns, land, returns, enter, alloc1, alloc0, params1, pass1, pass0, free1, free0, FmC, fmOf, WpFn-mono, RattleType, owns, Is, uint-makes, uint-lawful, uint-vals, uint-tells, u8, u16, u64, RefT, MutRef, ptr-vals, mut-tells, ShrSlice, Room, slice-vals, shr-slice-tells, plainly, shrSliceOf, owned, Vals, onEntry, Meets, tripleOf, lasts, Contract, Triple, entered, cited, says, Stays, gave-ref, stay-dropped, walkOf, goes-gave-ref, goes-dropped, ends-at, walked, walk-meets, yes}
 use denote.RattleType.{Denots, Valss}
 use denote.Triple.Clauses.{Lasts}
 use Rattle.slots.specs.declared.Slot.{Slot}
@@ -8,7 +8,7 @@ use Rattle.slots.specs.declared.Shown.{Shown}
 use Rattle.slots.specs.Calls.{shownOf}
 use Rattle.slot_list.specs.List.{isNoTable, slotIn}
 use Rattle.card.specs.Table.{shownAs, shownIn}
-use Rattle.slot_list.proofs.CallRules.{Of, calls-fn}
+use Rattle.walks.proofs.CallRules.{Of, calls-fn}
 use Rattle.slot_list.proofs.SlotLaws.{R, typed}
 use denote.Plain.{bool-lawful}
 use Rattle.slot_list.proofs.SlotCalls.{IsNoTable, SlotIn, lent, slice, asks-table, takes-slot, with-seen}

@@ -2,28 +2,14 @@
 use mathlib.Core.Path.{refl}
 use Prim.Native.Nat.{_-_}
 use borrow.Author.Needs.{needs}
-use Rattle.laws.proofs.Lists.{fill-none, fill-more}
-use Rattle.ciphering.proofs.Copies.{Copied, copied-all}
+use Rattle.laws.proofs.Lists.{fill-none, fill-more, Copied, copied-all}
 use Rattle.ciphering.proofs.lent.key_of.Statement.{statement}
 use Rattle.ciphering.proofs.lent.key_of.Tie as tie
-
-abbrev Inv-loop : tie.InvT-loop
-Inv-loop s key₀ i₀ key i = Copied s 24 key i
-
-abbrev μ-loop : tie.MeasureT-loop
-μ-loop s key₀ i₀ key i = 24 - i
-
-loop-holds : tie.Need-loop-holds Inv-loop μ-loop
-loop-holds c = fill-none refl
-
-loop-again : tie.Need-loop-again Inv-loop μ-loop
-loop-again c = fill-more (c .before .before .loop .inv) (c .before .loop-test .taken) _ refl
-
-returns : tie.Need-returns Inv-loop μ-loop
-returns c = copied-all (c .before .loop .inv) (c .loop-test .left) (c .before .before .pre)
 
 pub key-of-spec : {M : Type 1} → statement M
 key-of-spec =
     tie.close
     (tie.spec
-    Inv-loop μ-loop loop-holds (λ c. search needs) (λ c. search needs) (λ c. search needs) (λ c. search needs) loop-again returns)
+    (λ s b₀ i₀ b i. Copied s 24 b i) (λ s b₀ i₀ b i. 24 - i) (λ c. fill-none refl) (λ c. search needs) (λ c. search needs) (λ c. search needs) (λ c. search needs)
+    (λ c. fill-more (c .before .before .loop .inv) (c .before .loop-test .taken) _ refl)
+    (λ c. copied-all (c .before .loop .inv) (c .loop-test .left) (c .before .before .pre)))

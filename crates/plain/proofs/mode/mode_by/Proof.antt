@@ -1,26 +1,21 @@
 -- `plain::mode::mode_by`: both lists are filled side by side; byte k of the mixed value is b[20 + k]. Assumes nothing.
 use mathlib.Core.Path.{_≡_, refl, sym, ap, _∙_}
 use mathlib.Core.List.{List}
-use Prim.Native.Nat.{ℕ, _+_, _*_, _/_, _%_, _-_, _<_}
+use Prim.Native.Nat.{ℕ, _+_, _/_, _%_, _-_, _<_}
 use borrow.Author.Needs.{needs}
 use lib.ListN.{getD}
-use Rattle.laws.specs.Lists.{Filled}
-use Rattle.laws.proofs.Lists.{fill-none, fill-more, fill-all, tabulate-at}
+use Rattle.laws.proofs.Lists.{tabulate-at}
 use Rattle.tea.specs.Mixing.{expandedByte, mixedValue}
-use Rattle.tea.specs.Mode.{combined, firstOf, secondOf, modeKey, modeValue, modeBy}
+use Rattle.tea.specs.Mode.{combined}
+use Rattle.tea.proofs.Halves.{Halves, halves-none, halves-more, halves-all}
 use Rattle.plain.proofs.mode.mode_by.Statement.{statement}
 use Rattle.plain.proofs.mode.mode_by.Tie as tie
 
 abbrev Inv-loop : tie.InvT-loop
-Inv-loop f digit iv ck ckm₀ ivm₀ k₀ ckm ivm k =
-    Filled (λ k. firstOf f ck (mixedValue iv) k / 16 * 16 + secondOf f ck (mixedValue iv) k / 16) 0 24 ckm k
-    × Filled (λ k. firstOf f ck (mixedValue iv) k % 16 * 16 + secondOf f ck (mixedValue iv) k % 16) 0 24 ivm k
+Inv-loop f digit iv ck ckm₀ ivm₀ k₀ ckm ivm k = Halves f ck (mixedValue iv) ckm ivm k
 
 abbrev μ-loop : tie.MeasureT-loop
 μ-loop f digit iv ck ckm₀ ivm₀ k₀ ckm ivm k = 24 - k
-
-loop-holds : tie.Need-loop-holds Inv-loop μ-loop
-loop-holds c = (fill-none refl, fill-none refl)
 
 -- byte k of the mixed value
 mixed-at : (iv : List ℕ) (k : ℕ) → k < 24 → expandedByte iv (20 + k) ≡ getD (mixedValue iv) k 0
@@ -36,26 +31,15 @@ loop-again c =
     let k = at .loop .k in
     let h : k < 24 = asked .before .loop-test .taken in
     let v : asked .byte .result ≡ getD (mixedValue (a .iv)) k 0 = asked .byte .ensures ∙ mixed-at (a .iv) k h in
-    let x = low .before .first .ensures ∙ ap (λ (m : ℕ). combined (a .f .now) (getD (a .t3) k 0 / 16) (m / 16)) v in
-    let y = low .second .ensures ∙ ap (λ (m : ℕ). combined (a .f .now) (getD (a .t3) k 0 % 16) (m % 16)) v in (
-      fill-more (at .loop .inv .0) h _ (c .before .key-byte .ensures ∙ (λ i. x i / 16 * 16 + y i / 16)),
-      fill-more (at .loop .inv .1) h _ (c .value-byte .ensures ∙ (λ i. x i % 16 * 16 + y i % 16)),
-    )
-
-returns : tie.Need-returns Inv-loop μ-loop
-unfolding modeBy modeKey modeValue
-returns c =
-    let filled = c .before .loop .inv in
-    λ i.
-    record {
-      key = fill-all (filled .0) (c .loop-test .left) i;
-      value = fill-all (filled .1) (c .loop-test .left) i;
-      digit = c .before .before .args .digit;
-    }
+    halves-more (at .loop .inv) h _ _ _ _
+    (low .before .first .ensures ∙ ap (λ (m : ℕ). combined (a .f .now) (getD (a .t3) k 0 / 16) (m / 16)) v)
+    (low .second .ensures ∙ ap (λ (m : ℕ). combined (a .f .now) (getD (a .t3) k 0 % 16) (m % 16)) v)
+    (c .before .key-byte .ensures) (c .value-byte .ensures)
 
 pub mode-by-spec : {M : Type 1} → statement M
 mode-by-spec =
     tie.close
     (tie.spec
-    Inv-loop μ-loop loop-holds (λ c. search needs) (λ c κs. search needs) (λ c. search needs) (λ c κs. search needs) (λ c. search needs) (λ c κs. search needs)
-    (λ c κs. search needs) (λ c. search needs) (λ c κs. search needs) (λ c. search needs) (λ c. search needs) (λ c. search needs) loop-again returns)
+    Inv-loop μ-loop (λ c. halves-none) (λ c. search needs) (λ c κs. search needs) (λ c. search needs) (λ c κs. search needs) (λ c. search needs) (λ c κs. search needs)
+    (λ c κs. search needs) (λ c. search needs) (λ c κs. search needs) (λ c. search needs) (λ c. search needs) (λ c. search needs) loop-again
+    (λ c. halves-all _ (c .before .loop .inv) (c .loop-test .left)))

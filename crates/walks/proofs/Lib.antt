@@ -1,0 +1,4 @@
+pub mod Walk
+pub mod CallRules
+pub mod Shared
+pub mod Heads
