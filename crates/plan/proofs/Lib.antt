@@ -1,3 +1,4 @@
 pub mod Sound
 pub mod Examples
 pub mod Withdrawn
+pub mod Flag

@@ -10,7 +10,7 @@ use Rattle.laws.specs.Bits.{bitAt, bytesOfBits}
 use Rattle.laws.proofs.Cases.{lt-or-le}
 use Rattle.laws.proofs.Bits.{at-lt, at-past, length-bytes, bytes-lt, bytes-ext, bytes-are-bits, bits-of-bytes}
 use Rattle.span.specs.Span.{inRun, spanBit, putBit, xored, written, zeroed, nought}
-use Rattle.span.proofs.Within.{Binary, Beside, within-in, within-out, within-same, within-join, span-lt, put-lt, nought-lt, span-join, span-twice, span-cleared}
+use Rattle.span.proofs.Within.{Binary, Beside, within-in, within-out, within-same, within-join, span-lt, put-lt, nought-lt, span-join, span-swap, span-twice, span-cleared}
 
 -- a list of bytes
 abbrev pub Bytes : List ℕ → Type 0
@@ -119,6 +119,15 @@ module _ (k : ℕ → ℕ) (binary : Binary k) (l : List ℕ) (off from n : ℕ)
   xored-twice small =
       over-bits (spanBit (bitAt l) k off from n) k (length l) off from n (span-lt off from n (at-lt l) binary)
       ∙ sym (bytes-are-bits l _ (length l) refl small (λ j h. sym (span-twice (bitAt l) k off from n j)))
+
+-- two runs change places
+pub xored-swap : (l : List ℕ) (k s : ℕ → ℕ) (off from n off₂ from₂ n₂ : ℕ) → Binary k → Binary s
+    → xored (xored l k off from n) s off₂ from₂ n₂ ≡ xored (xored l s off₂ from₂ n₂) k off from n
+unfolding xored
+xored-swap l k s off from n off₂ from₂ n₂ hk hs =
+    over-bits (spanBit (bitAt l) k off from n) s (length l) off₂ from₂ n₂ (span-lt off from n (at-lt l) hk)
+    ∙ bytes-ext _ _ (length l) (λ j h. span-swap (bitAt l) k s off from n off₂ from₂ n₂ j)
+    ∙ sym (over-bits (spanBit (bitAt l) s off₂ from₂ n₂) k (length l) off from n (span-lt off₂ from₂ n₂ (at-lt l) hs))
 
 -- bits that are zeroed and then xored are the stream's
 pub xored-cleared : (l : List ℕ) (k : ℕ → ℕ) (off from n : ℕ) → xored (zeroed l off n) k off from n ≡ written l k off from n

@@ -4,10 +4,14 @@ use mathlib.Core.Logic.{⊎-elim}
 use Prim.Native.Nat.{ℕ, _+_, _-_, _<_, _≤_}
 use native.Mathlib.Omega.{arith}
 use borrow.Author.Tests.{lt-ltb, le-ltb, le-leb, lt-leb}
-use lib.Bits.{bitXor, xor-lt, xor-zero-l}
+use lib.Bits.{bitXor, xor-comm, xor-lt, xor-zero-l}
 use Rattle.laws.proofs.Cases.{lt-or-le}
-use Rattle.laws.proofs.Xor.{xor-back}
+use Rattle.laws.proofs.Xor.{xor-assoc, xor-back}
 use Rattle.span.specs.Span.{inRun, spanBit, putBit, nought}
+
+-- what is xored last and what is xored before it change places
+xor-swap : (a b c : ℕ) → bitXor (bitXor a b) c ≡ bitXor (bitXor a c) b
+xor-swap a b c = xor-assoc a b c ∙ ap (bitXor a) (xor-comm b c) ∙ sym (xor-assoc a c b)
 
 -- a stream of bits
 abbrev pub Binary : (ℕ → ℕ) → Type 0
@@ -93,6 +97,28 @@ span-shift p q k b off from n j e =
     (in-or-out off n j
     (λ u v. within-in off n j _ _ u v ∙ sym (within-in (b + off) n (b + j) _ _ (omega arith) (omega arith)))
     (λ u. within-out off n j _ _ u ∙ sym (within-out (b + off) n (b + j) _ _ (λ v. omega (arith, u (omega arith))))))
+
+-- two runs change places, whether or not they meet
+pub span-swap : (p k s : ℕ → ℕ) (off from n off₂ from₂ n₂ j : ℕ)
+    → spanBit (spanBit p k off from n) s off₂ from₂ n₂ j ≡ spanBit (spanBit p s off₂ from₂ n₂) k off from n j
+unfolding spanBit
+span-swap p k s off from n off₂ from₂ n₂ j =
+    in-or-out off n j
+    (λ u v.
+    rw (within-in off n j (bitXor (p j) x) (p j) u v, within-in off n j (bitXor second x) second u v)
+    (in-or-out off₂ n₂ j
+    (λ u₂ v₂. rw (within-in off₂ n₂ j (bitXor (bitXor (p j) x) y) (bitXor (p j) x) u₂ v₂, within-in off₂ n₂ j (bitXor (p j) y) (p j) u₂ v₂) (xor-swap (p j) x y))
+    (λ h₂. rw (within-out off₂ n₂ j (bitXor (bitXor (p j) x) y) (bitXor (p j) x) h₂, within-out off₂ n₂ j (bitXor (p j) y) (p j) h₂))))
+    (λ h. rw (within-out off n j (bitXor (p j) x) (p j) h, within-out off n j (bitXor second x) second h))
+  where
+    x : ℕ
+    x = k (from + (j - off))
+
+    y : ℕ
+    y = s (from₂ + (j - off₂))
+
+    second : ℕ
+    second = inRun off₂ n₂ j (bitXor (p j) y) (p j)
 
 -- the same run twice gives every bit back
 pub span-twice : (p k : ℕ → ℕ) (off from n j : ℕ) → spanBit (spanBit p k off from n) k off from n j ≡ p j

@@ -1,5 +1,6 @@
 -- Runs of bits in a buffer: xored with a stream, written from one, zeroed; the stream of a keystream's blocks, and how many of them a run uses.
 -- Bits are numbered from 0, bit 0 of a byte is its most significant, and a stream gives each bit by its number. Assumes nothing: these are definitions.
+use mathlib.Core.Bool.{Bool, not, _&&_}
 use mathlib.Core.List.{List, [], _∷_, _++_}
 use Prim.Native.Nat.{ℕ, _+_, _-_, _/_, _%_}
 use lib.Bits.{bitXor}
@@ -54,3 +55,15 @@ streamBit b i = bitAt (b (i / 256)) (i % 256)
 -- How many different blocks hold one of the n bits from `skip` on: from the first bit's block to the last bit's, and none for no bit.
 unfoldable pub blocksUsed : ℕ → ℕ → ℕ
 blocksUsed skip n = pick (eqb n 0) 0 ((skip + n - 1) / 256 - skip / 256 + 1)
+
+-- The number after that of the last block that holds one of the n bits from `skip` on, and `next` for no bit.
+unfoldable pub blockAfter : ℕ → ℕ → ℕ → ℕ
+blockAfter next skip n = pick (eqb n 0) next ((skip + n - 1) / 256 + 1)
+
+-- The last bit of one run and the first bit of another are in one block.
+abbrev pub shareBlock : ℕ → ℕ → ℕ → ℕ → Bool
+shareBlock skip n skip₂ n₂ = not (eqb n 0) && not (eqb n₂ 0) && eqb ((skip + n - 1) / 256) (skip₂ / 256)
+
+-- How many different blocks hold a bit of one of two runs, the second behind the first: the blocks of each, less the one that both use.
+unfoldable pub blocksOfBoth : ℕ → ℕ → ℕ → ℕ → ℕ
+blocksOfBoth skip n skip₂ n₂ = blocksUsed skip n + blocksUsed skip₂ n₂ - pick (shareBlock skip n skip₂ n₂) 1 0

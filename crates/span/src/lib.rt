@@ -1,4 +1,4 @@
-// Runs of bits in a buffer: a run of a block's bits xored in a byte at a time, the front zeroed, and the blocks that a run uses.
+// Runs of bits in a buffer: a run of a block's bits xored in a byte at a time, and the front zeroed.
 // Bit 0 of a byte is its most significant.
 ghost use mathlib.Core.List.{[], _∷_};
 ghost use mathlib.Core.Path.{_≡_};
@@ -6,7 +6,7 @@ ghost use Prim.Native.Nat.{_<_, _≤_, _+_, _-_, _*_, _/_, _%_, _^_};
 ghost use lib.Bits.{bitXor};
 ghost use lib.ListN.{length};
 ghost use Rattle.laws.specs.Bits.{bitAt, byteOfBits};
-ghost use Rattle.span.specs.Span.{longestStream, xored, zeroed, framed, blocksUsed};
+ghost use Rattle.span.specs.Span.{xored, zeroed, framed};
 
 // The longest buffer of a call, in bytes.
 pub const LONGEST_BUFFER: usize = 8192;
@@ -126,15 +126,4 @@ pub fn clear_front(s: &mut [u8], n: usize)
         return;
     }
     s[q] = first_off(s[q], o);
-}
-
-// How many different blocks of 256 bits hold one of the n bits from `skip` on.
-pub fn blocks_used(skip: usize, n: usize) -> usize
-    requires { ⌜ skip + n ≤ longestStream ⌝ }
-    ensures { λ r. ⌜ r ≡ blocksUsed skip n ⌝ }
-{
-    if n == 0 {
-        return 0;
-    }
-    (skip + n - 1) / 256 - skip / 256 + 1
 }
