@@ -2,14 +2,16 @@
 ghost use mathlib.Core.Path.{_≡_};
 ghost use Prim.Native.Nat.{_*_, _≤_};
 ghost use lib.ListN.{length};
-ghost use Rattle.span.specs.Span.{longestBuffer, longestStream, written};
+ghost use Rattle.span.specs.Span.{longestBuffer, longestStream, written, blocksUsed};
 ghost use Rattle.keystream.specs.Stream.{keystream};
-ghost use Rattle.bench.specs.Bench.{keyedRefusal, benchRefusal, benchAnswer};
-ghost use Rattle.ciphering.specs.Span.{cipheredAs};
+ghost use Rattle.bench.specs.Bench.{keyedRefusal, benchRefusal, benchBlocks, benchAnswer};
+ghost use Rattle.ciphering.specs.Span.{cipheredAs, schedulesFor};
+use ciphering::Report;
 use ciphering::lent::iv_of;
 use ciphering::lent::key_of;
 use ciphering::span_refusals::span_refusal;
 use ciphering::xor::cipher_from;
+use keystream::Tally;
 use refusals::refuse;
 
 // Whether keystream may be had under a key that comes with the call, by the bytes of key, initial value and buffer.
@@ -46,32 +48,34 @@ fn bench_refusal(algorithm: u64, key: &[u8], iv: &[u8], buf: &[u8], n: usize) ->
 }
 
 // Bits 0 to n - 1 of the buffer become the keystream's. They are cleared first, and xored then.
-fn write_keystream(buf: &mut [u8], n: usize, algorithm: u64, ck: [u8; 24], iv: [u8; 10])
+fn write_keystream(buf: &mut [u8], n: usize, algorithm: u64, ck: [u8; 24], iv: [u8; 10]) -> Tally
     requires { ⌜ (length (now buf) ≤ longestBuffer) × (n ≤ 8 * length (now buf)) × (n ≤ longestStream) ⌝ }
-    ensures { λ _. ⌜ now (buf .exit) ≡ written (now (buf .entry)) (keystream algorithm ck iv) 0 0 n ⌝ }
+    ensures { λ r. ⌜ (now (buf .exit) ≡ written (now (buf .entry)) (keystream algorithm ck iv) 0 0 n)
+        × (r .schedules ≡ 1)
+        × (r .blocks ≡ blocksUsed 0 n) ⌝ }
 {
     span::clear_front(buf, n);
-    cipher_from(buf, 0, n, 0, algorithm, ck, iv);
+    cipher_from(buf, 0, n, 0, algorithm, ck, iv)
 }
 
 // Writes keystream bits 0 to n - 1 from bit 0 of the buffer on, keeps its later bits, and reports how many blocks were made.
-pub fn bench(
-    algorithm: u64,
-    key: &[u8],
-    iv: &[u8],
-    buf: &mut [u8],
-    n: usize,
-    blocks: &mut usize,
-) -> u8
-    ensures { λ r. ⌜ cipheredAs r (now (buf .exit)) (now (blocks .exit))
-        ≡ benchAnswer algorithm (now (key .entry)) (now (iv .entry)) (now (buf .entry)) n ⌝ }
+pub fn bench(algorithm: u64, key: &[u8], iv: &[u8], buf: &mut [u8], n: usize) -> Report
+    ensures { λ r. ⌜ (cipheredAs (r .refusal) (now (buf .exit)) (r .blocks)
+        ≡ benchAnswer algorithm (now (key .entry)) (now (iv .entry)) (now (buf .entry)) n)
+        × (r .schedules ≡ schedulesFor (benchBlocks algorithm (now (key .entry)) (now (iv .entry)) (now (buf .entry)) n)) ⌝ }
 {
-    *blocks = 0;
     let refusal = bench_refusal(algorithm, key, iv, &buf[..], n);
     if refusal != refusals::DONE {
-        return refusal;
+        return Report {
+            refusal,
+            blocks: 0,
+            schedules: 0,
+        };
     }
-    write_keystream(buf, n, algorithm, key_of(key), iv_of(iv));
-    *blocks = span::blocks_used(0, n);
-    refusals::DONE
+    let made = write_keystream(buf, n, algorithm, key_of(key), iv_of(iv));
+    Report {
+        refusal,
+        blocks: made.blocks,
+        schedules: made.schedules,
+    }
 }

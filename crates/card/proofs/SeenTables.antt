@@ -24,8 +24,11 @@ use Rattle.slots.proofs.Puts.{load-put, move-put, clear-put}
 use Rattle.slots.proofs.Passed.{MovePassedOf, load-passed-of, move-passed-of, clear-passed-of}
 use Rattle.traffic.specs.Traffic.{trafficRefusalOf, traffickedOf, trafficBlocksOf}
 use Rattle.slot_list.specs.List.{isTable, isNoTable, placeOf, slotIn, putIn}
-use Rattle.card.specs.Table.{loadedIn, movedIn, clearedIn, shownIn, trafficRefusalIn, traffickedIn, trafficBlocksIn}
+use Rattle.card.specs.Table.{loadedIn, movedIn, clearedIn, shownIn, trafficRefusalIn, traffickedIn, trafficBlocksIn, wholeRefusalIn, wholedIn, wholeBlocksIn}
 use Rattle.traffic.proofs.SeenTraffic.{refusal-seen, buffer-seen, blocks-seen}
+use Rattle.whole.specs.declared.Pdu.{Pdu}
+use Rattle.whole.specs.Whole.{wholeRefusalOf, wholedOf, wholeBlocksOf}
+use Rattle.whole.proofs.Seen as whole-seen
 
 abbrev refusalOf : Put → ℕ
 refusalOf p = p .refusal
@@ -60,6 +63,16 @@ module _ (ys : List Slot) where
         e .0 ∙ refusal-seen (isNoTable ys) number (slotIn ys number) (slotAt ys number) there-in direction iv buf start n skip,
         e .1 ∙ buffer-seen (isNoTable ys) number (slotIn ys number) (slotAt ys number) there-in direction iv buf start n skip,
         e .2 ∙ blocks-seen (isNoTable ys) number (slotIn ys number) (slotAt ys number) there-in direction iv buf start n skip,
+      )
+
+    module _ (direction : ℕ) (iv buf : List ℕ) (u : Pdu) where
+      pub whole-in : (r : ℕ) (zs : List ℕ) (k : ℕ)
+          → (r ≡ wholeRefusalOf (isNoTable ys) (slotIn ys number) direction number iv buf u) × (zs ≡ wholedOf (isNoTable ys) (slotIn ys number) direction number iv buf u) × (k ≡ wholeBlocksOf (isNoTable ys) (slotIn ys number) direction number iv buf u)
+          → (r ≡ wholeRefusalIn ys direction number iv buf u) × (zs ≡ wholedIn ys direction number iv buf u) × (k ≡ wholeBlocksIn ys direction number iv buf u)
+      whole-in r zs k e = (
+        e .0 ∙ whole-seen.refusal-seen (isNoTable ys) number (slotIn ys number) (slotAt ys number) there-in direction iv buf u,
+        e .1 ∙ whole-seen.buffer-seen (isNoTable ys) number (slotIn ys number) (slotAt ys number) there-in direction iv buf u,
+        e .2 ∙ whole-seen.blocks-seen (isNoTable ys) number (slotIn ys number) (slotAt ys number) there-in direction iv buf u,
       )
 
     module _ (put : Put) where

@@ -6,10 +6,15 @@ use Rattle.fields.specs.declared.Fields.{Fields}
 use Rattle.record_reader.specs.declared.RecordRead.{RecordRead}
 use Rattle.record_writer.specs.Written.{recordWritten, bufferWritten}
 use Rattle.plan.specs.declared.Plan.{Plan}
+use Rattle.whole.specs.declared.Pdu.{Pdu}
 
 -- the fields that a caller gives one by one
 abbrev pub asking : ℕ → ℕ → ℕ → ℕ → ℕ → Asked
 asking version algorithm usage side place = record { version = version; algorithm = algorithm; usage = usage; side = side; place = place }
+
+-- the inputs of a plan, but for the flag, that a caller gives one by one
+abbrev pub pduAs : ℕ → ℕ → ℕ → ℕ → ℕ → Pdu
+pduAs kind state length address sdu = record { kind = kind; state = state; length = length; address = address; sdu = sdu }
 
 -- number, version, algorithm, use, side, place
 abbrev pub shownNumbers : ℕ → Fields → List ℕ

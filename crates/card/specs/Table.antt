@@ -11,6 +11,8 @@ use Rattle.slot_list.specs.List.{isNoTable}
 use Rattle.slots.specs.Calls.{loadedBy, movedBy, clearedBy, shownOf}
 use Rattle.ciphering.specs.Span.{Ciphered, cipheredAs}
 use Rattle.traffic.specs.Traffic.{trafficRefusalOf, traffickedOf, trafficBlocksOf}
+use Rattle.whole.specs.declared.Pdu.{Pdu}
+use Rattle.whole.specs.Whole.{wholeRefusalOf, wholedOf, wholeBlocksOf}
 
 abbrev pub loadedIn : List Slot → ℕ → Asked → List ℕ → Changed
 loadedIn t number a key = loadedBy (isNoTable t) t number a key
@@ -33,6 +35,15 @@ traffickedIn t direction number iv buf start n skip = traffickedOf (isNoTable t)
 abbrev pub trafficBlocksIn : List Slot → ℕ → ℕ → List ℕ → List ℕ → ℕ → ℕ → ℕ → ℕ
 trafficBlocksIn t direction number iv buf start n skip = trafficBlocksOf (isNoTable t) (slotAt t number) direction number iv buf start n skip
 
+abbrev pub wholeRefusalIn : List Slot → ℕ → ℕ → List ℕ → List ℕ → Pdu → ℕ
+wholeRefusalIn t direction number iv buf u = wholeRefusalOf (isNoTable t) (slotAt t number) direction number iv buf u
+
+abbrev pub wholedIn : List Slot → ℕ → ℕ → List ℕ → List ℕ → Pdu → List ℕ
+wholedIn t direction number iv buf u = wholedOf (isNoTable t) (slotAt t number) direction number iv buf u
+
+abbrev pub wholeBlocksIn : List Slot → ℕ → ℕ → List ℕ → List ℕ → Pdu → ℕ
+wholeBlocksIn t direction number iv buf u = wholeBlocksOf (isNoTable t) (slotAt t number) direction number iv buf u
+
 -- the answers, part by part as their caller has them
 
 abbrev pub changedAs : ℕ → List Slot → Changed
@@ -42,6 +53,10 @@ abbrev pub trafficAnswerIn : List Slot → ℕ → ℕ → List ℕ → List ℕ
 trafficAnswerIn t direction number iv buf start n skip =
     cipheredAs (trafficRefusalIn t direction number iv buf start n skip) (traffickedIn t direction number iv buf start n skip)
     (trafficBlocksIn t direction number iv buf start n skip)
+
+abbrev pub wholeAnswerIn : List Slot → ℕ → ℕ → List ℕ → List ℕ → Pdu → Ciphered
+wholeAnswerIn t direction number iv buf u =
+    cipheredAs (wholeRefusalIn t direction number iv buf u) (wholedIn t direction number iv buf u) (wholeBlocksIn t direction number iv buf u)
 
 abbrev pub shownAs : ℕ → ℕ → ℕ → ℕ → ℕ → ℕ → ℕ → Shown
 shownAs refusal number version algorithm usage side place = record {

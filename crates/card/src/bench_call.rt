@@ -16,5 +16,7 @@ pub extern "C" fn card_bench(
     ensures { λ r. ⌜ cipheredAs r (now (buf .exit)) (now (blocks .exit))
         ≡ benchAnswer algorithm (now (key .entry)) (now (iv .entry)) (now (buf .entry)) n ⌝ }
 {
-    bench::bench(algorithm, key, iv, buf, n, blocks)
+    let report = bench::bench(algorithm, key, iv, buf, n);
+    *blocks = report.blocks;
+    report.refusal
 }

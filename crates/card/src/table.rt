@@ -2,10 +2,11 @@
 ghost use mathlib.Core.Path.{_≡_};
 ghost use Rattle.slots.specs.Calls.{shownOf};
 ghost use Rattle.slots.specs.Seen.{loadPut};
-ghost use Rattle.card.specs.Faces.{asking};
+ghost use Rattle.card.specs.Faces.{asking, pduAs};
 ghost use Rattle.ciphering.specs.Span.{cipheredAs};
-ghost use Rattle.card.specs.Table.{changedAs, loadedIn, movedIn, clearedIn, shownAs, shownIn, trafficAnswerIn};
+ghost use Rattle.card.specs.Table.{changedAs, loadedIn, movedIn, clearedIn, shownAs, shownIn, trafficAnswerIn, wholeAnswerIn};
 ghost use Rattle.traffic.specs.Traffic.{trafficRefusalOf, traffickedOf, trafficBlocksOf};
+ghost use Rattle.whole.specs.Whole.{wholeRefusalOf, wholedOf, wholeBlocksOf};
 use fields::Asked;
 use slot_list::is_no_table;
 use slot_list::put_slot;
@@ -13,6 +14,8 @@ use slot_list::slot_in;
 use slots::Put;
 use slots::Slot;
 use traffic::traffic_of;
+use whole::Pdu;
+use whole::whole_of;
 
 fn load_from(
     bad: bool,
@@ -191,6 +194,71 @@ pub extern "C" fn card_traffic<'a>(
         start,
         n,
         skip,
+        blocks,
+    )
+}
+
+fn pdu_from<'a>(
+    bad: bool,
+    slot: Slot,
+    direction: u64,
+    number: u64,
+    iv: &'a [u8],
+    buf: &'a mut [u8],
+    kind: u64,
+    state: u64,
+    length: usize,
+    address: usize,
+    sdu: usize,
+    blocks: &'a mut usize,
+) -> u8
+    ensures { λ r. ⌜ (r ≡ wholeRefusalOf bad slot direction number (now (iv .entry)) (now (buf .entry)) (pduAs kind state length address sdu))
+        × (now (buf .exit) ≡ wholedOf bad slot direction number (now (iv .entry)) (now (buf .entry)) (pduAs kind state length address sdu))
+        × (now (blocks .exit) ≡ wholeBlocksOf bad slot direction number (now (iv .entry)) (now (buf .entry)) (pduAs kind state length address sdu)) ⌝ }
+{
+    let pdu = Pdu {
+        kind,
+        state,
+        length,
+        address,
+        sdu,
+    };
+    let report = whole_of(bad, slot, direction, number, iv, buf, pdu);
+    *blocks = report.blocks;
+    report.refusal
+}
+
+// A whole PDU, from bit 0 of the buffer on: every piece of its plan is ciphered, or no bit changes. Its flag is read from its bit 12, counted from 1.
+// Reports how many blocks were made.
+#[no_mangle]
+pub extern "C" fn card_pdu<'a>(
+    t: &[Slot],
+    direction: u64,
+    number: u64,
+    iv: &'a [u8],
+    buf: &'a mut [u8],
+    kind: u64,
+    state: u64,
+    length: usize,
+    address: usize,
+    sdu: usize,
+    blocks: &'a mut usize,
+) -> u8
+    ensures { λ r. ⌜ cipheredAs r (now (buf .exit)) (now (blocks .exit))
+        ≡ wholeAnswerIn (now (t .entry)) direction number (now (iv .entry)) (now (buf .entry)) (pduAs kind state length address sdu) ⌝ }
+{
+    pdu_from(
+        is_no_table(t),
+        slot_in(t, number),
+        direction,
+        number,
+        iv,
+        buf,
+        kind,
+        state,
+        length,
+        address,
+        sdu,
         blocks,
     )
 }

@@ -1,8 +1,9 @@
 -- What an accepted run of bits has passed. Assumes nothing.
 use mathlib.Core.Bool.{_||_}
 use mathlib.Core.Path.{_≡_}
-use Prim.Native.Nat.{ℕ, _+_, _*_, _≤_}
-use borrow.Author.Tests.{ltb-false}
+use Prim.Native.Nat.{ℕ, _+_, _*_, _<_, _≤_}
+use native.Mathlib.Omega.{arith}
+use borrow.Author.Tests.{eqb-false, ltb-false}
 use lib.Dec.{eqb, ltb, lit<}
 use Rattle.laws.proofs.Cases.{neither, unpicked}
 use Rattle.span.specs.Span.{longestBuffer, longestStream}
@@ -10,6 +11,7 @@ use Rattle.ciphering.specs.Span.{spanRefusal}
 
 pub record SpanPassed (size start n skip : ℕ) : Type 0 where
   pub small : size ≤ longestBuffer
+  pub some : 0 < n
   pub streamed : skip + n ≤ longestStream
   pub inside : start + n ≤ 8 * size
 
@@ -21,6 +23,7 @@ span-passed size start n skip e =
     let six = unpicked (ltb (8 * size) (start + n)) 6 _ (lit< tt) (four .1) in
     record {
       small = ltb-false longestBuffer size (five .0);
+      some = let ne = eqb-false n 0 (neither (eqb n 0) (ltb longestStream (skip + n)) (four .0) .0) in omega (arith, ne);
       streamed = ltb-false longestStream (skip + n) (neither (eqb n 0) (ltb longestStream (skip + n)) (four .0) .1);
       inside = ltb-false (8 * size) (start + n) (six .0);
     }

@@ -1,9 +1,10 @@
--- What the bench call and traffic share: refusals 5, 4 and 6, in this order (document 01, "Numbers an engineer sees"), and the form of their
--- answers. Assumes nothing: these are definitions.
+-- What the calls on a buffer share: refusals 5, 4 and 6, in this order (document 01, "Numbers an engineer sees"), the form of their answers,
+-- and the key schedules that they fill (document 02, [10]). Assumes nothing: these are definitions.
 use mathlib.Core.Bool.{_||_}
 use mathlib.Core.List.{List}
 use Prim.Native.Nat.{ℕ, _+_, _*_}
 use lib.Dec.{eqb, ltb}
+use Rattle.laws.specs.Choice.{pick}
 use Rattle.refusals.specs.Numbers.{done, lengthBad, bufferLarge, spanOutside, refuse}
 use Rattle.span.specs.Span.{longestBuffer, longestStream}
 
@@ -23,3 +24,7 @@ pub record Ciphered : Type 0 where
 
 abbrev pub cipheredAs : ℕ → List ℕ → ℕ → Ciphered
 cipheredAs refusal buffer blocks = record { refusal = refusal; buffer = buffer; blocks = blocks }
+
+-- the key schedules that a call fills, by the blocks that it makes: one, and none where it makes no block, as a refused call does
+abbrev pub schedulesFor : ℕ → ℕ
+schedulesFor blocks = pick (eqb blocks 0) 0 1

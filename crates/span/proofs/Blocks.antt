@@ -11,9 +11,9 @@ use lib.Dec.{eqb, ltb}
 use lib.ListN.{length, getD}
 use Rattle.laws.specs.Choice.{pick}
 use Rattle.laws.specs.Lists.{tabulate}
-use Rattle.laws.proofs.Cases.{lt-or-le, eq-or-ne}
+use Rattle.laws.proofs.Cases.{lt-or-le, eq-or-ne, pick-cases}
 use Rattle.laws.proofs.Lists.{length-tabulate, getD-tabulate}
-use Rattle.span.specs.Span.{longestStream, blocksUsed, blockAfter, blocksOfBoth}
+use Rattle.span.specs.Span.{longestStream, blocksUsed, blockAfter, shareBlock, blocksOfBoth}
 
 pub used-none : (skip n : ℕ) → n ≡ 0 → blocksUsed skip n ≡ 0
 unfolding blocksUsed
@@ -22,6 +22,9 @@ used-none skip n e = rw (eq-eqb n 0 e)
 pub used-some : (skip n : ℕ) → (n ≡ 0 → ⊥) → blocksUsed skip n ≡ (skip + n - 1) / 256 - skip / 256 + 1
 unfolding blocksUsed
 used-some skip n e = rw (ne-eqb n 0 e)
+
+pub used-pos : (skip n : ℕ) → 0 < n → 0 < blocksUsed skip n
+used-pos skip n h = let u = used-some skip n (λ e. omega arith) in omega (arith, u)
 
 -- block r holds one of the n bits from `skip` on
 abbrev pub UsedBlock : ℕ → ℕ → ℕ → Type 0
@@ -151,6 +154,25 @@ both-none skip n skip₂ =
     let a = after-none (blockAfter 0 skip n) skip₂ 0 refl in
     sym (both-used skip n skip₂ 0 (λ h. absurd (omega arith))) ∙ rw a (omega arith)
 
+-- a run of some bits uses a block
+pub both-pos : (skip n skip₂ n₂ : ℕ) → (n ≡ 0 → n₂ ≡ 0 → ⊥) → 0 < blocksOfBoth skip n skip₂ n₂
+unfolding blocksOfBoth
+both-pos skip n skip₂ n₂ some =
+    ⊎-elim
+    (λ e. rw (eq-eqb n 0 e, used-none skip n e) (let u = used-pos skip₂ n₂ (pos n₂ (some e)) in omega (arith, u)))
+    (λ ne.
+    let u = used-pos skip n (pos n ne) in
+    ⊎-elim
+    (λ e. rw (ne-eqb n 0 ne, eq-eqb n₂ 0 e, used-none skip₂ n₂ e) (omega (arith, u)))
+    (λ ne₂.
+    let u₂ = used-pos skip₂ n₂ (pos n₂ ne₂) in
+    pick-cases (λ (x : ℕ). 0 < blocksUsed skip n + blocksUsed skip₂ n₂ - x) (shareBlock skip n skip₂ n₂) (λ t. omega (arith, u, u₂)) (λ t. omega (arith, u, u₂)))
+    (eq-or-ne n₂ 0))
+    (eq-or-ne n 0)
+  where
+    pos : (m : ℕ) → (m ≡ 0 → ⊥) → 0 < m
+    pos m ne = omega (arith, ne)
+
 -- how many blocks n bits use at most, and that they do from bit 255 of a block on
 
 pub used-bound : (skip n : ℕ) → 0 < n → blocksUsed skip n ≤ (n + 254) / 256 + 1
@@ -159,8 +181,15 @@ used-bound skip n h = let u = used-some skip n (λ e. omega arith) in omega (ari
 pub used-most : (n : ℕ) → 0 < n → blocksUsed 255 n ≡ (n + 254) / 256 + 1
 used-most n h = let u = used-some 255 n (λ e. omega arith) in omega (arith, u)
 
+-- more than 8,033 bits do not fit the keystream from bit 255 on; as far as its end they use all of its 33 blocks, and never more
+pub used-beyond : (skip n : ℕ) → 8033 < n → skip + n ≤ longestStream → blocksUsed skip n ≤ 33
+used-beyond skip n h fits = let u = used-some skip n (λ e. omega arith) in omega (arith, u)
+
+pub used-to-end : (n : ℕ) → 8033 < n → n ≤ longestStream → blocksUsed (longestStream - n) n ≡ 33
+used-to-end n h fits = let u = used-some (longestStream - n) n (λ e. omega arith) in omega (arith, u)
+
 -- two runs within the keystream use no more than its blocks
-pub both-bound : (skip n skip₂ n₂ : ℕ) → (0 < n₂ → skip + n ≤ skip₂) → skip + n ≤ 8288 → skip₂ + n₂ ≤ 8288 → blocksOfBoth skip n skip₂ n₂ ≤ 33
+pub both-bound : (skip n skip₂ n₂ : ℕ) → (0 < n₂ → skip + n ≤ skip₂) → skip + n ≤ longestStream → skip₂ + n₂ ≤ longestStream → blocksOfBoth skip n skip₂ n₂ ≤ 33
 both-bound skip n skip₂ n₂ later h h₂ = rw (← both-used skip n skip₂ n₂ later) bound
   where
     next : ℕ

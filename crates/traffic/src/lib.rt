@@ -1,7 +1,9 @@
 // Traffic with a slot's key, on any run of bits of a lent buffer.
 ghost use mathlib.Core.Path.{_≡_};
 ghost use Rattle.laws.specs.Bits.{bitAt};
+ghost use Rattle.ciphering.specs.Span.{schedulesFor};
 ghost use Rattle.traffic.specs.Traffic.{onSide, useRefusalOf, trafficRefusalOf, traffickedOf, trafficBlocksOf, trafficRefusal, trafficked, trafficBlocks};
+use ciphering::Report;
 use ciphering::lent::iv_of;
 use ciphering::span_refusals::span_refusal;
 use ciphering::xor::cipher_from;
@@ -11,14 +13,8 @@ use slots::Slot;
 
 const SEND: u64 = 1;
 
-// What a call on a buffer reports beside it.
-pub struct Report {
-    pub refusal: u8,
-    pub blocks: usize,
-}
-
 // Bit i of lent bytes, and 0 past their end.
-fn bit_at(s: &[u8], i: usize) -> u8
+pub fn bit_at(s: &[u8], i: usize) -> u8
     ensures { λ r. ⌜ r ≡ bitAt (now (s .entry)) i ⌝ }
 {
     let q = i / 8;
@@ -40,7 +36,7 @@ fn on_side(direction: u64, f: Fields, iv: &[u8]) -> bool
 }
 
 // Refusals 16, 10, 7, 8, 12, 3, 13, in this order.
-fn use_refusal(bad: bool, slot: Slot, direction: u64, number: u64, iv: &[u8]) -> u8
+pub fn use_refusal(bad: bool, slot: Slot, direction: u64, number: u64, iv: &[u8]) -> u8
     ensures { λ r. ⌜ r ≡ useRefusalOf bad slot direction number (now (iv .entry)) ⌝ }
 {
     let f = slot.fields;
@@ -108,17 +104,25 @@ pub fn traffic_of(
 ) -> Report
     ensures { λ r. ⌜ (r .refusal ≡ trafficRefusalOf bad slot direction number (now (iv .entry)) (now (buf .entry)) start n skip)
         × (r .blocks ≡ trafficBlocksOf bad slot direction number (now (iv .entry)) (now (buf .entry)) start n skip)
-        × (now (buf .exit) ≡ traffickedOf bad slot direction number (now (iv .entry)) (now (buf .entry)) start n skip) ⌝ }
+        × (now (buf .exit) ≡ traffickedOf bad slot direction number (now (iv .entry)) (now (buf .entry)) start n skip)
+        × (r .schedules ≡ schedulesFor (trafficBlocksOf bad slot direction number (now (iv .entry)) (now (buf .entry)) start n skip)) ⌝ }
 {
     let refusal = traffic_refusal(bad, slot, direction, number, iv, &buf[..], start, n, skip);
     if refusal != refusals::DONE {
-        return Report { refusal, blocks: 0 };
+        return Report {
+            refusal,
+            blocks: 0,
+            schedules: 0,
+        };
     }
     let f = slot.fields;
     let key = slot.key;
-    cipher_from(buf, start, n, skip, f.algorithm as u64, key, iv_of(iv));
-    let blocks = span::blocks_used(skip, n);
-    Report { refusal, blocks }
+    let made = cipher_from(buf, start, n, skip, f.algorithm as u64, key, iv_of(iv));
+    Report {
+        refusal,
+        blocks: made.blocks,
+        schedules: made.schedules,
+    }
 }
 
 // The same on a table by value.
@@ -134,7 +138,8 @@ pub fn traffic(
 ) -> Report
     ensures { λ r. ⌜ (r .refusal ≡ trafficRefusal table direction number (now (iv .entry)) (now (buf .entry)) start n skip)
         × (r .blocks ≡ trafficBlocks table direction number (now (iv .entry)) (now (buf .entry)) start n skip)
-        × (now (buf .exit) ≡ trafficked table direction number (now (iv .entry)) (now (buf .entry)) start n skip) ⌝ }
+        × (now (buf .exit) ≡ trafficked table direction number (now (iv .entry)) (now (buf .entry)) start n skip)
+        × (r .schedules ≡ schedulesFor (trafficBlocks table direction number (now (iv .entry)) (now (buf .entry)) start n skip)) ⌝ }
 {
     let bad = slots::table_is_bad(table);
     let slot = slots::slot_or_empty(table, number);

@@ -4,7 +4,8 @@ use native.Mathlib.Omega.{arith}
 use lib.ListN.{length}
 use borrow.Author.Needs.{needs}
 use borrow.Author.Tests.{eq-eqb, ne-eqb}
-use Rattle.span.specs.Span.{written}
+use Rattle.span.specs.Span.{written, blocksUsed}
+use Rattle.span.proofs.Blocks.{used-pos}
 use Rattle.keystream.specs.Stream.{keystream}
 use Rattle.bench.specs.Bench.{benchRefusal, benched, benchBlocks}
 use Rattle.ciphering.proofs.Answers.{ciphered-is}
@@ -26,7 +27,7 @@ unfolding benched benchBlocks
 returns c =
     let e = c .before .bench-refusal .ensures in
     let no = ne-eqb _ 0 (λ z. c .if1 .taken (e ∙ z)) in
-    ciphered-is e (rw no) (rw no)
+    (ciphered-is e (rw no) (rw no), rw no)
 
 key-of-requires : tie.Need-key-of-requires
 key-of-requires c κs = passed (c .before) .key-24
@@ -37,25 +38,25 @@ iv-of-requires c κs = passed (c .before .before) .iv-10
 write-keystream-requires : tie.Need-write-keystream-requires
 write-keystream-requires c κs = let s = passed (c .before .before .before) .span in (s .small, omega arith, omega arith)
 
-blocks-used-requires : tie.Need-blocks-used-requires
-blocks-used-requires c κs = let s = passed (c .before .before .before .before .before .before) .span in omega arith
-
 returns-2 : tie.Need-returns-2
 unfolding benched benchBlocks
 returns-2 c =
-    let ran = c .before .before .before in
+    let ran = c .before .before in
     let iv = ran .before in
     let e = iv .before .before .before in
     let a = start e .args in
     let yes = eq-eqb (benchRefusal (a .algorithm) (a .key .now) (a .iv .now) (a .buf .now) (a .n)) 0 (accepted e) in
-    ciphered-is (sym (accepted e))
-    (rw yes
-    (ran .write-keystream .ensures
-    ∙ (λ i. written (a .buf .now) (keystream (a .algorithm) (iv .before .key-of .ensures i) (iv .iv-of .ensures i)) 0 0 (a .n))))
-    (rw yes (c .blocks-used .ensures))
+    let made = ran .write-keystream .ensures in (
+      ciphered-is (e .before .bench-refusal .ensures)
+          (rw yes
+          (made .0
+          ∙ (λ i. written (a .buf .now) (keystream (a .algorithm) (iv .before .key-of .ensures i) (iv .iv-of .ensures i)) 0 0 (a .n))))
+          (rw yes (made .2)),
+      made .1 ∙ rw (yes, ne-eqb (blocksUsed 0 (a .n)) 0 (λ z. let some = used-pos 0 (a .n) (passed e .span .some) in omega (arith, some))),
+    )
 
 pub bench-spec : {M : Type 1} → statement M
 bench-spec =
     tie.close
     (tie.spec
-    (λ c κs. search needs) (λ c. search needs) returns key-of-requires iv-of-requires write-keystream-requires blocks-used-requires (λ c. search needs) returns-2)
+    (λ c κs. search needs) (λ c. search needs) returns key-of-requires iv-of-requires write-keystream-requires (λ c. search needs) returns-2)

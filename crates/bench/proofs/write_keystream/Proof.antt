@@ -15,9 +15,13 @@ returns c =
     let front = ran .before .before .before .before in
     let a = front .before .before .before .args in
     let k = keystream (a .algorithm) (a .ck) (a .iv) in
-    ran .cipher-from .ensures
-    ∙ ap (λ (l : List ℕ). xored l k 0 0 (a .n)) (front .clear-front .ensures)
-    ∙ xored-cleared (a .buf .now) k 0 0 (a .n)
+    let made = ran .cipher-from .ensures in (
+      made .0
+          ∙ ap (λ (l : List ℕ). xored l k 0 0 (a .n)) (front .clear-front .ensures)
+          ∙ xored-cleared (a .buf .now) k 0 0 (a .n),
+      made .1,
+      made .2,
+    )
 
 pub write-keystream-spec : {M : Type 1} → statement M
 write-keystream-spec = tie.close (tie.spec (λ c κs. search needs) (λ c κs. search needs) (λ c. search needs) returns)

@@ -1,7 +1,8 @@
 -- `traffic::traffic`: what is decided by what is seen of the table is what is decided by the table. Assumes nothing.
-use mathlib.Core.Path.{_∙_}
+use mathlib.Core.Path.{ap, _∙_}
 use borrow.Author.Needs.{needs}
 use Rattle.slots.proofs.AsSeen.{slot-there}
+use Rattle.ciphering.specs.Span.{schedulesFor}
 use Rattle.traffic.specs.Traffic.{trafficRefusalOf, traffickedOf, trafficBlocksOf}
 use Rattle.traffic.proofs.SeenTraffic.{refusal-seen, buffer-seen, blocks-seen}
 use Rattle.traffic.proofs.traffic.Statement.{statement}
@@ -13,16 +14,18 @@ returns c =
     let s = d .before .before in
     let b = s .before in
     let a = b .before .before .before .args in
-    let e = d .traffic-of .ensures in (
+    let e = d .traffic-of .ensures in
+    let blocks =
+    (λ i. trafficBlocksOf (b .table-is-bad .ensures i) (s .slot-or-empty .ensures i) (a .direction) (a .number) (a .iv .now) (a .buf .now) (a .start) (a .n) (a .skip))
+    ∙ blocks-seen _ (a .number) _ _ (slot-there _ (a .table) (a .number)) (a .direction) (a .iv .now) (a .buf .now) (a .start) (a .n) (a .skip) in (
       e .0
           ∙ (λ i. trafficRefusalOf (b .table-is-bad .ensures i) (s .slot-or-empty .ensures i) (a .direction) (a .number) (a .iv .now) (a .buf .now) (a .start) (a .n) (a .skip))
           ∙ refusal-seen _ (a .number) _ _ (slot-there _ (a .table) (a .number)) (a .direction) (a .iv .now) (a .buf .now) (a .start) (a .n) (a .skip),
-      e .1
-          ∙ (λ i. trafficBlocksOf (b .table-is-bad .ensures i) (s .slot-or-empty .ensures i) (a .direction) (a .number) (a .iv .now) (a .buf .now) (a .start) (a .n) (a .skip))
-          ∙ blocks-seen _ (a .number) _ _ (slot-there _ (a .table) (a .number)) (a .direction) (a .iv .now) (a .buf .now) (a .start) (a .n) (a .skip),
+      e .1 ∙ blocks,
       e .2
           ∙ (λ i. traffickedOf (b .table-is-bad .ensures i) (s .slot-or-empty .ensures i) (a .direction) (a .number) (a .iv .now) (a .buf .now) (a .start) (a .n) (a .skip))
           ∙ buffer-seen _ (a .number) _ _ (slot-there _ (a .table) (a .number)) (a .direction) (a .iv .now) (a .buf .now) (a .start) (a .n) (a .skip),
+      e .3 ∙ ap schedulesFor blocks,
     )
 
 pub traffic-spec : {M : Type 1} → statement M

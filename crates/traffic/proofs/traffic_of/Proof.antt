@@ -4,7 +4,8 @@ use Prim.Native.Nat.{ℕ}
 use native.Mathlib.Omega.{arith}
 use borrow.Author.Needs.{needs}
 use borrow.Author.Tests.{eq-eqb, ne-eqb}
-use Rattle.span.specs.Span.{xored}
+use Rattle.span.specs.Span.{xored, blocksUsed}
+use Rattle.span.proofs.Blocks.{used-pos}
 use Rattle.keystream.specs.Stream.{keystream}
 use Rattle.traffic.specs.Traffic.{trafficRefusalOf, traffickedOf, trafficBlocksOf}
 use Rattle.traffic.proofs.Passed.{TrafficPassedOf, traffic-passed-of}
@@ -28,7 +29,7 @@ unfolding traffickedOf trafficBlocksOf
 returns c =
     let e = c .before .traffic-refusal .ensures in
     let no = ne-eqb _ 0 (λ z. c .if1 .taken (e ∙ z)) in
-    (e, rw no, rw no)
+    (e, rw no, rw no, rw no)
 
 iv-of-requires : tie.Need-iv-of-requires
 iv-of-requires c κs = passed (c .before .before .before .before) .allowed .iv-10
@@ -36,27 +37,25 @@ iv-of-requires c κs = passed (c .before .before .before .before) .allowed .iv-1
 cipher-from-requires : tie.Need-cipher-from-requires
 cipher-from-requires c κs = let s = passed (c .before .before .before .before .before) .span in (s .small, omega arith, omega arith)
 
-blocks-used-requires : tie.Need-blocks-used-requires
-blocks-used-requires c κs = let s = passed (c .before .before .before .before .before .before .before .before) .span in omega arith
-
 returns-2 : tie.Need-returns-2
 unfolding traffickedOf trafficBlocksOf
 returns-2 c =
-    let ran = c .before .before .before in
+    let ran = c .before .before in
     let iv = ran .before in
     let e = iv .before .before .before .before .before in
     let a = start e .args in
-    let yes = eq-eqb (answer (start e)) 0 (accepted e) in (
+    let yes = eq-eqb (answer (start e)) 0 (accepted e) in
+    let made = ran .cipher-from .ensures in (
       e .before .traffic-refusal .ensures,
-      rw yes (c .blocks-used .ensures),
+      rw yes (made .2),
       rw yes
-          (ran .cipher-from .ensures
+          (made .0
           ∙ (λ i. xored (a .buf .now) (keystream (a .slot .fields .algorithm) (a .slot .key) (iv .iv-of .ensures i)) (a .start) (a .skip) (a .n))),
+      made .1 ∙ rw (yes, ne-eqb (blocksUsed (a .skip) (a .n)) 0 (λ z. let some = used-pos (a .skip) (a .n) (passed e .span .some) in omega (arith, some))),
     )
 
 pub traffic-of-spec : {M : Type 1} → statement M
 traffic-of-spec =
     tie.close
     (tie.spec
-    (λ c κs. search needs) (λ c. search needs) returns (λ c. search needs) iv-of-requires cipher-from-requires blocks-used-requires
-    (λ c. search needs) returns-2)
+    (λ c κs. search needs) (λ c. search needs) returns (λ c. search needs) iv-of-requires cipher-from-requires (λ c. search needs) returns-2)

@@ -16,9 +16,13 @@ returns c =
     let a = done .before .before .before .args in
     let k = keystream (a .algorithm) (a .ck) (a .iv) in
     let start : 8 * (a .start / 8) + a .start % 8 ≡ a .start = omega arith in
-    tail-back (a .buf .now) (done .xor-keystream .last .0) k (a .start / 8) (a .start % 8) (a .skip) (a .n) (stream-lt _) (omega arith)
-    (done .xor-keystream .ensures) (λ q. omega (arith, c .slice-known2 .given q))
-    ∙ ap (λ (m : ℕ). xored (a .buf .now) k m (a .skip) (a .n)) start
+    let made = done .xor-keystream .ensures in (
+      tail-back (a .buf .now) (done .xor-keystream .last .0) k (a .start / 8) (a .start % 8) (a .skip) (a .n) (stream-lt _) (omega arith)
+          (made .0) (λ q. omega (arith, c .slice-known2 .given q))
+          ∙ ap (λ (m : ℕ). xored (a .buf .now) k m (a .skip) (a .n)) start,
+      made .1,
+      made .2,
+    )
 
 pub cipher-from-spec : {M : Type 1} → statement M
 cipher-from-spec =

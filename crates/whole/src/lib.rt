@@ -1,0 +1,154 @@
+// A whole PDU in one call, with a slot's key: every piece of its plan is ciphered, or no bit changes.
+ghost use mathlib.Core.Path.{_≡_};
+ghost use Prim.Native.Nat.{_≤_};
+ghost use lib.ListN.{length};
+ghost use Rattle.span.specs.Span.{longestBuffer};
+ghost use Rattle.keystream.specs.Stream.{keystream};
+ghost use Rattle.keystream.specs.Work.{Fits, Later};
+ghost use Rattle.ciphering.specs.Span.{schedulesFor};
+ghost use Rattle.whole.specs.Whole.{flagOf, roomRefusal, openRefusalOf, wholePlan, runOf, hasNoPiece, ciphered, planBlocks, wholeRefusalOf, wholedOf, wholeBlocksOf};
+use ciphering::Report;
+use ciphering::lent::iv_of;
+use keystream::Run;
+use keystream::Tally;
+use plan::Piece;
+use plan::Plan;
+use refusals::refuse;
+use slots::Slot;
+use traffic::bit_at;
+use traffic::use_refusal;
+
+// Kind 2, whose PDUs have a fragmentation flag.
+const SYNC_ON_SCH_H: u64 = 2;
+
+// What a plan is made of, but for the flag: that stands in the PDU. Length, address and sdu are bits.
+pub struct Pdu {
+    pub kind: u64,
+    pub state: u64,
+    pub length: usize,
+    pub address: usize,
+    pub sdu: usize,
+}
+
+// The fragmentation flag of a PDU: its bit 12, counted from 1, if it is of kind 2 and has one.
+fn flag_of(pdu: Pdu, buf: &[u8]) -> u64
+    ensures { λ r. ⌜ r ≡ flagOf pdu (now (buf .entry)) ⌝ }
+{
+    if pdu.kind != SYNC_ON_SCH_H {
+        return 0;
+    }
+    if pdu.length < 12 {
+        return 0;
+    }
+    bit_at(buf, 11) as u64
+}
+
+fn plan_of(pdu: Pdu, buf: &[u8]) -> Plan
+    ensures { λ r. ⌜ r ≡ wholePlan (now (buf .entry)) pdu ⌝ }
+{
+    let flag = flag_of(pdu, buf);
+    plan::plan_pdu(pdu.kind, pdu.state, flag, pdu.length, pdu.address, pdu.sdu)
+}
+
+// Refusals 5, 6.
+fn room_refusal(size: usize, length: usize) -> u8
+    ensures { λ r. ⌜ r ≡ roomRefusal size length ⌝ }
+{
+    if span::LONGEST_BUFFER < size {
+        return refusals::BUFFER;
+    }
+    if 8 * size < length {
+        return refusals::SPAN;
+    }
+    refusals::DONE
+}
+
+// Refusals 16, 10, 7, 8, 12, 3, 13, 5, 6, in this order.
+fn open_refusal(
+    bad: bool,
+    slot: Slot,
+    direction: u64,
+    number: u64,
+    iv: &[u8],
+    size: usize,
+    length: usize,
+) -> u8
+    ensures { λ r. ⌜ r ≡ openRefusalOf bad slot direction number (now (iv .entry)) size length ⌝ }
+{
+    let use_refusal = use_refusal(bad, slot, direction, number, iv);
+    refuse(
+        use_refusal != refusals::DONE,
+        use_refusal,
+        room_refusal(size, length),
+    )
+}
+
+fn run_of(p: Piece) -> Run
+    ensures { λ r. ⌜ r ≡ runOf p ⌝ }
+{
+    Run {
+        start: p.start,
+        n: p.length,
+        skip: p.skip,
+    }
+}
+
+fn has_no_piece(p: Plan) -> bool
+    ensures { λ r. ⌜ r ≡ hasNoPiece p ⌝ }
+{
+    let first = p.first;
+    let second = p.second;
+    first.length == 0 && second.length == 0
+}
+
+// Each piece of a plan becomes itself xor its part of the keystream; every other bit stays. Where there is no piece, no schedule is filled.
+fn cipher_pieces(buf: &mut [u8], p: Plan, algorithm: u64, key: [u8; 24], iv: [u8; 10]) -> Tally
+    requires { ⌜ (length (now buf) ≤ longestBuffer) × Fits (now buf) (runOf (p .first)) × Fits (now buf) (runOf (p .second)) × Later (runOf (p .first)) (runOf (p .second)) ⌝ }
+    ensures { λ r. ⌜ (now (buf .exit) ≡ ciphered (now (buf .entry)) (keystream algorithm key iv) p)
+        × (r .blocks ≡ planBlocks p)
+        × (r .schedules ≡ schedulesFor (planBlocks p)) ⌝ }
+{
+    if has_no_piece(p) {
+        return Tally {
+            schedules: 0,
+            blocks: 0,
+        };
+    }
+    keystream::xor_runs(buf, run_of(p.first), run_of(p.second), algorithm, key, iv)
+}
+
+// Each piece of the PDU's plan becomes itself xor its part of the keystream; every other bit stays. Refusals 16, 10, 7, 8, 12, 3, 13, 5, 6, 18, 19,
+// in this order. Reports how many blocks were made.
+pub fn whole_of(
+    bad: bool,
+    slot: Slot,
+    direction: u64,
+    number: u64,
+    iv: &[u8],
+    buf: &mut [u8],
+    pdu: Pdu,
+) -> Report
+    ensures { λ r. ⌜ (r .refusal ≡ wholeRefusalOf bad slot direction number (now (iv .entry)) (now (buf .entry)) pdu)
+        × (r .blocks ≡ wholeBlocksOf bad slot direction number (now (iv .entry)) (now (buf .entry)) pdu)
+        × (now (buf .exit) ≡ wholedOf bad slot direction number (now (iv .entry)) (now (buf .entry)) pdu)
+        × (r .schedules ≡ schedulesFor (wholeBlocksOf bad slot direction number (now (iv .entry)) (now (buf .entry)) pdu)) ⌝ }
+{
+    let p = plan_of(pdu, &buf[..]);
+    let open = open_refusal(bad, slot, direction, number, iv, buf.len(), pdu.length);
+    let refusal = refuse(open != refusals::DONE, open, p.refusal);
+    if refusal != refusals::DONE {
+        return Report {
+            refusal,
+            blocks: 0,
+            schedules: 0,
+        };
+    }
+    let f = slot.fields;
+    let key = slot.key;
+    let made = cipher_pieces(buf, p, f.algorithm as u64, key, iv_of(iv));
+    Report {
+        refusal,
+        blocks: made.blocks,
+        schedules: made.schedules,
+    }
+}
