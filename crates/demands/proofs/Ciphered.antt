@@ -2,7 +2,7 @@
 -- beside the span never move, and the same call again brings the buffer back; the bench call gives the keystream itself. That a record read
 -- and written again is the same text is `read-then-written` (crates/records/proofs/Promises.antt). Assumes nothing.
 use mathlib.Core.Path.{_≡_, refl, sym, ap, subst, _∙_}
-use mathlib.Core.Bool.{Bool, not}
+use mathlib.Core.Bool.{Bool, false, not}
 use mathlib.Core.List.{List}
 use Prim.Native.Nat.{ℕ, _+_, _<_, _≤_}
 use native.Mathlib.Nat.{zero-add}
@@ -23,7 +23,10 @@ use Rattle.slots.specs.declared.Slot.{Slot}
 use Rattle.slots.specs.Slots.{hasBad, slotAt}
 use Rattle.bench.specs.Bench.{benchRefusal, benched}
 use Rattle.slot_list.specs.List.{isTable, isNoTable}
-use Rattle.card.specs.Table.{trafficRefusalIn, traffickedIn}
+use Rattle.card.specs.Table.{trafficRefusalIn, traffickedIn, wholeRefusalIn, wholedIn}
+use Rattle.whole.specs.declared.Pdu.{Pdu}
+use Rattle.whole.specs.Whole.{wholePlan}
+use Rattle.whole.proofs.Laws.{whole-outside, whole-beyond, whole-twice}
 use Rattle.traffic.specs.Traffic.{slotStream, trafficRefusalOf, traffickedOf}
 use Rattle.traffic.proofs.Laws.{traffic-accepted, traffic-twice}
 use Rattle.bench.proofs.Passed.{keyed-passed}
@@ -64,6 +67,21 @@ module _ (t : List Slot) (direction number : ℕ) (iv buf : List ℕ) (start n s
       on-table (λ b. trafficRefusalOf b (slotAt t number) direction number iv buf start n skip ≡ done
       → traffickedOf b (slotAt t number) direction number iv (traffickedOf b (slotAt t number) direction number iv buf start n skip) start n skip ≡ buf) e
       (traffic-twice t direction number iv buf start n skip bytes) e
+
+-- the call for a whole PDU (document 02, [1]): bits beside its pieces never move, and neither does a bit from its length on; the same call on the
+-- result, over any table that has the same slot, brings it back
+module _ (t : List Slot) (direction number : ℕ) (iv buf : List ℕ) (u : Pdu) (e : wholeRefusalIn t direction number iv buf u ≡ done) where
+  pub pdu-beside : (j : ℕ) → Beside (wholePlan buf u .first .start) (wholePlan buf u .first .length) j
+      → Beside (wholePlan buf u .second .start) (wholePlan buf u .second .length) j → bitAt (wholedIn t direction number iv buf u) j ≡ bitAt buf j
+  pdu-beside = whole-outside (isNoTable t) (slotAt t number) direction number iv buf u e
+
+  pub pdu-beyond : (j : ℕ) → u .length ≤ j → bitAt (wholedIn t direction number iv buf u) j ≡ bitAt buf j
+  pdu-beyond = whole-beyond (isNoTable t) (slotAt t number) direction number iv buf u e
+
+  pub pdu-again : (t′ : List Slot) → isNoTable t′ ≡ false → slotAt t′ number ≡ slotAt t number → ((q : ℕ) → getD buf q 0 < 256)
+      → (wholeRefusalIn t′ direction number iv (wholedIn t direction number iv buf u) u ≡ done)
+      × (wholedIn t′ direction number iv (wholedIn t direction number iv buf u) u ≡ buf)
+  pdu-again t′ = whole-twice (isNoTable t) (slotAt t number) direction number iv buf u e (isNoTable t′) (slotAt t′ number)
 
 module _ (algorithm : ℕ) (key iv buf : List ℕ) (n : ℕ) where
   -- "keystream": bit i of the buffer

@@ -27,7 +27,9 @@ use Rattle.sheet.specs.Sheet.{room, listedLength, listedBuffer}
 use Rattle.bench.specs.Bench.{benchRefusal, benched, benchBlocks}
 use Rattle.card.specs.Faces.{pieceNumbers}
 use Rattle.slot_list.specs.List.{isNoTable}
-use Rattle.card.specs.Table.{loadedIn, movedIn, clearedIn, shownIn, trafficRefusalIn, traffickedIn, trafficBlocksIn}
+use Rattle.card.specs.Table.{loadedIn, movedIn, clearedIn, shownIn, trafficRefusalIn, traffickedIn, trafficBlocksIn, wholeRefusalIn, wholedIn, wholeBlocksIn}
+use Rattle.whole.specs.declared.Pdu.{Pdu}
+use Rattle.whole.proofs.Calls.{whole-refused, whole-no-blocks}
 use Rattle.traffic.specs.Traffic.{traffickedOf, trafficBlocksOf}
 
 module _ (t : List Slot) where
@@ -62,6 +64,14 @@ module _ (t : List Slot) where
   unfolding traffickedOf trafficBlocksOf
   traffic-refused-in direction number iv buf start n skip r =
       rw (ne-eqb (trafficRefusalIn t direction number iv buf start n skip) done r) (refl, refl)
+
+  -- `card_pdu`: the same
+  pub pdu-refused-in : (direction number : ℕ) (iv buf : List ℕ) (u : Pdu) → (wholeRefusalIn t direction number iv buf u ≡ done → ⊥)
+      → (wholedIn t direction number iv buf u ≡ buf) × (wholeBlocksIn t direction number iv buf u ≡ 0)
+  pdu-refused-in direction number iv buf u r = (
+    whole-refused (isNoTable t) (slotAt t number) direction number iv buf u r,
+    whole-no-blocks (isNoTable t) (slotAt t number) direction number iv buf u r,
+  )
 
 -- `card_bench`: the buffer is as it was, and no block is reported
 pub bench-refused : (algorithm : ℕ) (key iv buf : List ℕ) (n : ℕ) → (benchRefusal algorithm key iv buf n ≡ done → ⊥)

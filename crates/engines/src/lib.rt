@@ -2,11 +2,12 @@
 ghost use mathlib.Core.Path.{_≡_};
 ghost use Prim.Native.Nat.{_+_, _*_, _≤_};
 ghost use lib.ListN.{length};
-ghost use Rattle.span.specs.Span.{written};
+ghost use Rattle.span.specs.Span.{written, blocksUsed};
 ghost use Rattle.keystream.specs.Stream.{keystream};
 ghost use Rattle.plain.specs.Given.{givenRefusal, given, givenBlocks};
 use ciphering::lent::iv_of;
 use ciphering::lent::key_of;
+use keystream::Tally;
 use plain::call::refusal_of;
 
 // Bits 0 to n - 1 of the buffer become the keystream's from bit `skip` on: what the bench call does, with a skip.
@@ -17,12 +18,12 @@ fn write_keystream(
     algorithm: u64,
     ck: [u8; 24],
     iv: [u8; 10],
-)
+) -> Tally
     requires { ⌜ (length (now buf) ≤ 8192) × (n ≤ 8 * length (now buf)) × (skip + n ≤ 8288) ⌝ }
-    ensures { λ _. ⌜ now (buf .exit) ≡ written (now (buf .entry)) (keystream algorithm ck iv) 0 skip n ⌝ }
+    ensures { λ r. ⌜ (now (buf .exit) ≡ written (now (buf .entry)) (keystream algorithm ck iv) 0 skip n) × (r .blocks ≡ blocksUsed skip n) ⌝ }
 {
     span::clear_front(buf, n);
-    keystream::xor_keystream(buf, 0, n, skip, algorithm, ck, iv);
+    keystream::xor_keystream(buf, 0, n, skip, algorithm, ck, iv)
 }
 
 // By the quick engine: the tables, the list of mixed bytes, the schedule of 32-bit words.
@@ -44,7 +45,7 @@ pub fn quick(
     if refusal != refusals::DONE {
         return refusal;
     }
-    write_keystream(buf, n, skip, algorithm, key_of(key), iv_of(iv));
-    *blocks = span::blocks_used(skip, n);
+    let made = write_keystream(buf, n, skip, algorithm, key_of(key), iv_of(iv));
+    *blocks = made.blocks;
     refusals::DONE
 }

@@ -2,7 +2,7 @@
 ghost use mathlib.Core.Path.{_≡_};
 ghost use Prim.Native.Nat.{_+_, _-_, _*_, _<_, _≤_, min};
 ghost use lib.ListN.{length};
-ghost use Rattle.span.specs.Span.{xored, written, streamBit};
+ghost use Rattle.span.specs.Span.{xored, written, streamBit, blocksUsed};
 ghost use Rattle.tea.specs.Keystream.{blockOf};
 ghost use Rattle.plain.specs.Given.{givenRefusal, given, givenBlocks};
 use crate::blocks::block;
@@ -24,29 +24,33 @@ fn piece(from: usize, left: usize) -> usize
     if left < 256 - from { left } else { 256 - from }
 }
 
-// Clauses 5.4, 6.4, 7.4: KSS[256 r + 8 s + t] is bit t of byte s of block r. Bit i of the buffer becomes itself xor KSS[skip + i], for i below n.
-fn xor_blocks(buf: &mut [u8], n: usize, skip: usize, mode: Mode)
+// Clauses 5.4, 6.4, 7.4: KSS[256 r + 8 s + t] is bit t of byte s of block r. Bit i of the buffer becomes itself xor KSS[skip + i], for i below n. Answers
+// with the blocks that were made.
+fn xor_blocks(buf: &mut [u8], n: usize, skip: usize, mode: Mode) -> usize
     requires { ⌜ (length (now buf) ≤ 8192) × (n ≤ 8 * length (now buf)) × (skip + n ≤ 8288) ⌝ }
-    ensures { λ _. ⌜ now (buf .exit) ≡ xored (now (buf .entry)) (streamBit (blockOf mode)) 0 skip n ⌝ }
+    ensures { λ r. ⌜ (now (buf .exit) ≡ xored (now (buf .entry)) (streamBit (blockOf mode)) 0 skip n) × (r ≡ blocksUsed skip n) ⌝ }
 {
+    let mut made = 0;
     let mut done = 0;
     while done < n {
         let at = skip + done;
         let from = at % 256;
         let p = piece(from, n - done);
         let b = block(mode, at / 256);
+        made += 1;
         span::xor_block(buf, b, done, from, p);
         done += p;
     }
+    made
 }
 
 // The bits are cleared first, and xored then: they become the keystream's.
-fn write_blocks(buf: &mut [u8], n: usize, skip: usize, mode: Mode)
+fn write_blocks(buf: &mut [u8], n: usize, skip: usize, mode: Mode) -> usize
     requires { ⌜ (length (now buf) ≤ 8192) × (n ≤ 8 * length (now buf)) × (skip + n ≤ 8288) ⌝ }
-    ensures { λ _. ⌜ now (buf .exit) ≡ written (now (buf .entry)) (streamBit (blockOf mode)) 0 skip n ⌝ }
+    ensures { λ r. ⌜ (now (buf .exit) ≡ written (now (buf .entry)) (streamBit (blockOf mode)) 0 skip n) × (r ≡ blocksUsed skip n) ⌝ }
 {
     span::clear_front(buf, n);
-    xor_blocks(buf, n, skip, mode);
+    xor_blocks(buf, n, skip, mode)
 }
 
 // Bit i of the buffer becomes keystream bit skip + i, for i below n; its later bits stay. Reports how many blocks were made.
@@ -74,7 +78,6 @@ pub extern "C" fn card_plain(
         ciphering::lent::key_of(key),
         ciphering::lent::iv_of(iv),
     );
-    write_blocks(buf, n, skip, mode);
-    *blocks = span::blocks_used(skip, n);
+    *blocks = write_blocks(buf, n, skip, mode);
     refusals::DONE
 }

@@ -14,7 +14,7 @@ use Rattle.slots.proofs.load.Reads as slots-load
 use Rattle.slots.proofs.move_slot.Reads as slots-move-slot
 use Rattle.slots.proofs.clear.Reads as slots-clear
 use Rattle.slots.proofs.read.Reads as slots-read
-use Rattle.traffic.specs.declared.Report.{Report}
+use Rattle.ciphering.specs.declared.Report.{Report}
 use Rattle.traffic.proofs.traffic.Reads as card-traffic
 use Rattle.runs.specs.Calls.{span, load, move, clear, read, traffic}
 use Rattle.runs.specs.Step.{changing, reading, ciphering}

@@ -35,25 +35,22 @@ iv-of-requires c κs = passed (c .before .before) .iv-10
 write-keystream-requires : tie.Need-write-keystream-requires
 write-keystream-requires c κs = let s = passed (c .before .before .before) .span in (s .small, omega arith, s .streamed)
 
-blocks-used-requires : tie.Need-blocks-used-requires
-blocks-used-requires c κs = passed (c .before .before .before .before .before .before) .span .streamed
-
 returns-2 : tie.Need-returns-2
 returns-2 c =
-    let ran = c .before .before .before in
+    let ran = c .before .before in
     let iv = ran .before in
     let e = iv .before .before .before in
     let a = start e .args in
     let yes = given-done (a .algorithm) (a .key .now) (a .iv .now) (a .buf .now) (a .n) (a .skip) (accepted e) in (
       sym (accepted e),
-      ran .write-keystream .ensures
+      ran .write-keystream .ensures .0
           ∙ (λ i. written (a .buf .now) (keystream (a .algorithm) (iv .before .key-of .ensures i) (iv .iv-of .ensures i)) 0 (a .skip) (a .n))
           ∙ sym (yes .0),
-      c .blocks-used .ensures ∙ sym (yes .1),
+      ran .write-keystream .ensures .1 ∙ sym (yes .1),
     )
 
 pub quick-spec : {M : Type 1} → statement M
 quick-spec =
     tie.close
     (tie.spec
-    (λ c κs. search needs) (λ c. search needs) returns key-of-requires iv-of-requires write-keystream-requires blocks-used-requires (λ c. search needs) returns-2)
+    (λ c κs. search needs) (λ c. search needs) returns key-of-requires iv-of-requires write-keystream-requires (λ c. search needs) returns-2)

@@ -14,10 +14,12 @@ returns c =
     let ran = c .before .before in
     let front = ran .before .before .before .before in
     let a = front .before .before .before .args in
-    let k = keystream (a .algorithm) (a .ck) (a .iv) in
-    ran .xor-keystream .ensures
-    ∙ ap (λ (l : List ℕ). xored l k 0 (a .skip) (a .n)) (front .clear-front .ensures)
-    ∙ xored-cleared (a .buf .now) k 0 (a .skip) (a .n)
+    let k = keystream (a .algorithm) (a .ck) (a .iv) in (
+      ran .xor-keystream .ensures .0
+          ∙ ap (λ (l : List ℕ). xored l k 0 (a .skip) (a .n)) (front .clear-front .ensures)
+          ∙ xored-cleared (a .buf .now) k 0 (a .skip) (a .n),
+      ran .xor-keystream .ensures .2,
+    )
 
 pub write-keystream-spec : {M : Type 1} → statement M
 write-keystream-spec = tie.close (tie.spec (λ c κs. search needs) (λ c κs. search needs) (λ c. search needs) returns)

@@ -38,7 +38,7 @@ cipher-from-requires c κs =
 returns : tie.Need-returns
 unfolding ciphered caseOf
 returns c =
-    c .before .before .cipher-from .ensures
+    c .before .before .cipher-from .ensures .0
     ∙ (λ i.
     xored
     (read (c .before .before .before .before .before .before) i)

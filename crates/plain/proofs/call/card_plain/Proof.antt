@@ -37,12 +37,9 @@ iv-of-requires c κs = passed (c .before) .iv-10
 write-blocks-requires : tie.Need-write-blocks-requires
 write-blocks-requires c κs = let s = passed (c .before .before .before .before) .span in (s .small, omega arith, s .streamed)
 
-blocks-used-requires : tie.Need-blocks-used-requires
-blocks-used-requires c κs = passed (c .before .before .before .before .before .before .before) .span .streamed
-
 returns-2 : tie.Need-returns-2
 returns-2 c =
-    let ran = c .before .before .before in
+    let ran = c .before .before in
     let mode = ran .before .before in
     let iv = mode .before in
     let key = iv .before in
@@ -50,15 +47,15 @@ returns-2 c =
     let a = start e .args in
     let yes = given-done (a .algorithm) (a .key .now) (a .iv .now) (a .buf .now) (a .n) (a .skip) (accepted e) in (
       sym (accepted e),
-      ran .write-blocks .ensures
+      ran .write-blocks .ensures .0
           ∙ ap (λ (m : Mode). written (a .buf .now) (streamBit (blockOf m)) 0 (a .skip) (a .n))
           (mode .mode-of .ensures ∙ (λ i. modeOf (a .algorithm) (key .key-of .ensures i) (iv .iv-of .ensures i)))
           ∙ sym (yes .0),
-      c .blocks-used .ensures ∙ sym (yes .1),
+      ran .write-blocks .ensures .1 ∙ sym (yes .1),
     )
 
 pub card-plain-spec : {M : Type 1} → statement M
 card-plain-spec =
     tie.close
     (tie.spec
-    (λ c κs. search needs) (λ c. search needs) returns key-of-requires iv-of-requires (λ c κs. search needs) write-blocks-requires blocks-used-requires (λ c. search needs) returns-2)
+    (λ c κs. search needs) (λ c. search needs) returns key-of-requires iv-of-requires (λ c κs. search needs) write-blocks-requires (λ c. search needs) returns-2)

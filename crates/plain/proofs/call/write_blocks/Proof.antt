@@ -14,10 +14,12 @@ returns c =
     let ran = c .before .before in
     let front = ran .before .before .before .before in
     let a = front .before .before .before .args in
-    let k = streamBit (blockOf (a .mode)) in
-    ran .xor-blocks .ensures
-    ∙ ap (λ (l : List ℕ). xored l k 0 (a .skip) (a .n)) (front .clear-front .ensures)
-    ∙ xored-cleared (a .buf .now) k 0 (a .skip) (a .n)
+    let k = streamBit (blockOf (a .mode)) in (
+      ran .xor-blocks .ensures .0
+          ∙ ap (λ (l : List ℕ). xored l k 0 (a .skip) (a .n)) (front .clear-front .ensures)
+          ∙ xored-cleared (a .buf .now) k 0 (a .skip) (a .n),
+      ran .xor-blocks .ensures .1,
+    )
 
 pub write-blocks-spec : {M : Type 1} → statement M
 write-blocks-spec = tie.close (tie.spec (λ c κs. search needs) (λ c κs. search needs) (λ c. search needs) returns)
