@@ -1,13 +1,13 @@
 -- `card::table::card_pdu` meets its contract: a walk of its MIR, by hand. `is_no_table` and `slot_in` look at the lent table where it lies, and `pdu_from` has what they saw, the buffer and the place for the block count, for good. There are two lifetimes, κ of t and λ of the other borrows.
 -- All that it knows of the three is that each meets its contract. Assumes nothing.
-use Rattle.slot_list.proofs.Walk.{_≡_, refl, ℕ, _<_, _^_, List, [], _∷_, length, URA, named, w8, w64, Val, vint, vptr, SProp, ent, emp, via, fst∗, id⊢, Lft, GName, Share, ftrue, flft, Memory, Routine, Heap, Calls, Loops, WpFn, Tables, Atoms, Fun, givenOf, tables, tablesOf, Given, Item, ‵, raw, _⊛_, ⋆, _$_, _∵_, !, qed, by, move, drop, use1, use2, split, join, fsplit, fjoin, feqL, suffices, frame, done, agg, whole, sub, look-in, look, init, forget, stop, hop, fld, from, load, addr, and-then, no-more, assigns, land, returns, enter, alloc1, alloc0, params1, pass1, pass0, free1, free0, FmC, fmOf, WpFn-mono, RattleType, owns, Is, uint-makes, uint-lawful, uint-vals, uint-tells, u8, u64, usize, RefT, MutRef, ptr-vals, mut-tells, sliceVal, MutSlice, ShrSlice, Room, slice-vals, mut-slice-tells, shr-slice-tells, plainly, shrSliceOf, owned, nothing, Vals, onEntry, Meets, tripleOf, lasts, Contract, Triple, entered, cited, says, Stays, gave-ref, gave-slice, stay-dropped, walkOf, goes-gave-ref, goes-gave-slice, goes-dropped, ends-at, walked, walk-meets, yes}
+use Rattle.walks.proofs.Walk.{_≡_, refl, ℕ, _<_, _^_, List, [], _∷_, length, URA, named, w8, w64, Val, vint, vptr, SProp, ent, emp, via, fst∗, id⊢, Lft, GName, Share, ftrue, flft, Memory, Routine, Heap, Calls, Loops, WpFn, Tables, Atoms, Fun, givenOf, tables, tablesOf, Given, Item, ‵, raw, _⊛_, ⋆, _$_, _∵_, !, qed, by, move, drop, use1, use2, split, join, fsplit, fjoin, feqL, suffices, frame, done, agg, whole, sub, look-in, look, init, forget, stop, hop, fld, from, load, addr, and-then, no-more, assigns, land, returns, enter, alloc1, alloc0, params1, pass1, pass0, free1, free0, FmC, fmOf, WpFn-mono, RattleType, owns, Is, uint-makes, uint-lawful, uint-vals, uint-tells, u8, u64, usize, RefT, MutRef, ptr-vals, mut-tells, sliceVal, MutSlice, ShrSlice, Room, slice-vals, mut-slice-tells, shr-slice-tells, plainly, shrSliceOf, owned, nothing, Vals, onEntry, Meets, tripleOf, lasts, Contract, Triple, entered, cited, says, Stays, gave-ref, gave-slice, stay-dropped, walkOf, goes-gave-ref, goes-gave-slice, goes-dropped, ends-at, walked, walk-meets, yes}
 use denote.RattleType.{Denots, Valss}
 use denote.Triple.Clauses.{Lasts}
 use Rattle.slots.specs.declared.Slot.{Slot}
 use Rattle.whole.specs.Whole.{wholeRefusalOf, wholedOf, wholeBlocksOf}
 use Rattle.slot_list.specs.List.{isNoTable, slotIn}
 use Rattle.card.specs.Faces.{pduAs}
-use Rattle.slot_list.proofs.CallRules.{Of, calls-fn}
+use Rattle.walks.proofs.CallRules.{Of, calls-fn}
 use Rattle.slot_list.proofs.SlotLaws.{R, typed}
 use denote.Plain.{bool-lawful}
 use Rattle.slot_list.proofs.SlotCalls.{IsNoTable, SlotIn, lent, slice, asks-table, takes-slot, with-seen}
