@@ -13,7 +13,7 @@ use Rattle.laws.specs.Choice.{pick}
 use Rattle.laws.specs.Lists.{tabulate}
 use Rattle.laws.proofs.Cases.{lt-or-le, eq-or-ne, pick-cases}
 use Rattle.laws.proofs.Lists.{length-tabulate, getD-tabulate}
-use Rattle.span.specs.Span.{longestStream, blocksUsed, blockAfter, shareBlock, blocksOfBoth}
+use Rattle.span.specs.Span.{longestStream, blocksUsed, blockAfter, shareBlock, blocksOfBoth, mostBlocks}
 
 pub used-none : (skip n : ℕ) → n ≡ 0 → blocksUsed skip n ≡ 0
 unfolding blocksUsed
@@ -175,10 +175,10 @@ both-pos skip n skip₂ n₂ some =
 
 -- how many blocks n bits use at most, and that they do from bit 255 of a block on
 
-pub used-bound : (skip n : ℕ) → 0 < n → blocksUsed skip n ≤ (n + 254) / 256 + 1
+pub used-bound : (skip n : ℕ) → 0 < n → blocksUsed skip n ≤ mostBlocks n
 used-bound skip n h = let u = used-some skip n (λ e. omega arith) in omega (arith, u)
 
-pub used-most : (n : ℕ) → 0 < n → blocksUsed 255 n ≡ (n + 254) / 256 + 1
+pub used-most : (n : ℕ) → 0 < n → blocksUsed 255 n ≡ mostBlocks n
 used-most n h = let u = used-some 255 n (λ e. omega arith) in omega (arith, u)
 
 -- more than 8,033 bits do not fit the keystream from bit 255 on; as far as its end they use all of its 33 blocks, and never more

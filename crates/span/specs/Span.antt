@@ -67,3 +67,7 @@ shareBlock skip n skip₂ n₂ = not (eqb n 0) && not (eqb n₂ 0) && eqb ((skip
 -- How many different blocks hold a bit of one of two runs, the second behind the first: the blocks of each, less the one that both use.
 unfoldable pub blocksOfBoth : ℕ → ℕ → ℕ → ℕ → ℕ
 blocksOfBoth skip n skip₂ n₂ = blocksUsed skip n + blocksUsed skip₂ n₂ - pick (shareBlock skip n skip₂ n₂) 1 0
+
+-- How many blocks n bits use at most, wherever they start (document 02, [10]).
+abbrev pub mostBlocks : ℕ → ℕ
+mostBlocks n = (n + 254) / 256 + 1

@@ -3,13 +3,13 @@
 use mathlib.Core.Bool.{Bool}
 use mathlib.Core.Path.{_≡_, sym, _∙_}
 use mathlib.Core.List.{List}
-use Prim.Native.Nat.{ℕ, _+_, _-_, _*_, _/_, _<_, _≤_}
+use Prim.Native.Nat.{ℕ, _+_, _-_, _*_, _<_, _≤_}
 use native.Mathlib.Omega.{arith}
 use borrow.Author.Tests.{eq-eqb, ne-eqb, lt-ltb, le-ltb}
 use lib.ListN.{length, getD}
 use Rattle.slots.specs.declared.Slot.{Slot}
 use Rattle.slots.specs.Slots.{slotAt}
-use Rattle.span.specs.Span.{longestBuffer, longestStream, xored}
+use Rattle.span.specs.Span.{longestBuffer, longestStream, xored, mostBlocks}
 use Rattle.span.proofs.Laws.{length-xored, xored-join, xored-twice}
 use Rattle.span.proofs.Stream.{stream-lt}
 use Rattle.span.proofs.Blocks.{UsedBlock, Enumerates, blocks-counted, used-bound, used-most, used-beyond, used-to-end}
@@ -76,14 +76,14 @@ module _ (bad : Bool) (slot : Slot) (direction number : ℕ) (iv buf : List ℕ)
 
   -- the bound: n bits take at most (n + 254) div 256 + 1 blocks
   pub traffic-bound : (start n skip : ℕ) → trafficRefusalOf bad slot direction number iv buf start n skip ≡ 0 → 0 < n
-      → trafficBlocksOf bad slot direction number iv buf start n skip ≤ (n + 254) / 256 + 1
+      → trafficBlocksOf bad slot direction number iv buf start n skip ≤ mostBlocks n
   unfolding trafficBlocksOf
   traffic-bound start n skip e h = rw (eq-eqb _ 0 e) (used-bound skip n h)
 
   module _ (allowed : useRefusalOf bad slot direction number iv ≡ 0) (small : length buf ≤ longestBuffer) (n : ℕ) (fits : n ≤ 8 * length buf) where
     -- they take as many at skip 255, for each length from 1 to 8,033
     pub traffic-most : 0 < n → n ≤ 8033
-        → (trafficRefusalOf bad slot direction number iv buf 0 n 255 ≡ 0) × (trafficBlocksOf bad slot direction number iv buf 0 n 255 ≡ (n + 254) / 256 + 1)
+        → (trafficRefusalOf bad slot direction number iv buf 0 n 255 ≡ 0) × (trafficBlocksOf bad slot direction number iv buf 0 n 255 ≡ mostBlocks n)
     unfolding trafficBlocksOf
     traffic-most some h =
         let ok = span-accepted 0 n 255 allowed small (omega arith) (omega arith) some in

@@ -61,9 +61,7 @@ ciphered buf k p = throughRun (throughRun buf k (runOf (p .first))) k (runOf (p 
 -- the buffer afterwards: each piece is xored with its part of the keystream; a refusal changes nothing
 unfoldable pub wholedOf : Bool → Slot → ℕ → ℕ → List ℕ → List ℕ → Pdu → List ℕ
 wholedOf bad slot direction number iv buf u =
-    pick (eqb (wholeRefusalOf bad slot direction number iv buf u) done)
-    (ciphered buf (slotStream slot iv) (wholePlan buf u))
-    buf
+    pick (eqb (wholeRefusalOf bad slot direction number iv buf u) done) (ciphered buf (slotStream slot iv) (wholePlan buf u)) buf
 
 -- how many different blocks hold a bit that one of the pieces uses (document 02, [10])
 abbrev pub planBlocks : Plan → ℕ

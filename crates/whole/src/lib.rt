@@ -21,6 +21,11 @@ use traffic::use_refusal;
 // Kind 2, whose PDUs have a fragmentation flag.
 const SYNC_ON_SCH_H: u64 = 2;
 
+const NOTHING_MADE: Tally = Tally {
+    schedules: 0,
+    blocks: 0,
+};
+
 // What a plan is made of, but for the flag: that stands in the PDU. Length, address and sdu are bits.
 pub struct Pdu {
     pub kind: u64,
@@ -109,10 +114,7 @@ fn cipher_pieces(buf: &mut [u8], p: Plan, algorithm: u64, key: [u8; 24], iv: [u8
         × (r .schedules ≡ schedulesFor (planBlocks p)) ⌝ }
 {
     if has_no_piece(p) {
-        return Tally {
-            schedules: 0,
-            blocks: 0,
-        };
+        return NOTHING_MADE;
     }
     keystream::xor_runs(buf, run_of(p.first), run_of(p.second), algorithm, key, iv)
 }
