@@ -12,34 +12,38 @@ use Rattle.slots.specs.declared.Shown.{Shown}
 use Rattle.slots.specs.Slots.{empty, slotAt, withSlot}
 use Rattle.slots.specs.Calls.{moveRefusal, answered, loaded, moved, cleared, shown}
 use Rattle.traffic.specs.Traffic.{trafficRefusal, trafficBlocks, trafficked}
+use Rattle.whole.specs.Whole.{wholeRefusal, wholeBlocks, wholed}
 use Rattle.runs.specs.Calls.{Use, Origin}
-use Rattle.runs.specs.Card.{Card, OfTraffic, cardBy}
+use Rattle.runs.specs.Card.{Card, OfTraffic, OfPdu, cardBy}
 
 -- our card, but for one answer
 
 abbrev pub loading : (List Slot → ℕ → Asked → List ℕ → Changed) → Card
-loading loads = cardBy loads moved cleared shown trafficRefusal trafficBlocks trafficked
+loading loads = cardBy loads moved cleared shown trafficRefusal trafficBlocks trafficked wholeRefusal wholeBlocks wholed
 
 -- what arrives is made of the slot that left
 abbrev pub moving : (Slot → Slot) → Card
 moving f =
     cardBy loaded (λ table from to asked. answered (moveRefusal table from to asked) table (withSlot (withSlot table to (f (slotAt table from))) from empty)) cleared shown
-    trafficRefusal trafficBlocks trafficked
+    trafficRefusal trafficBlocks trafficked wholeRefusal wholeBlocks wholed
 
 abbrev pub clearing : (List Slot → ℕ → Changed) → Card
-clearing clears = cardBy loaded moved clears shown trafficRefusal trafficBlocks trafficked
+clearing clears = cardBy loaded moved clears shown trafficRefusal trafficBlocks trafficked wholeRefusal wholeBlocks wholed
 
 abbrev pub showing : (List Slot → ℕ → Shown) → Card
-showing reads = cardBy loaded moved cleared reads trafficRefusal trafficBlocks trafficked
+showing reads = cardBy loaded moved cleared reads trafficRefusal trafficBlocks trafficked wholeRefusal wholeBlocks wholed
 
 abbrev pub refusing : OfTraffic ℕ → Card
-refusing refusal = cardBy loaded moved cleared shown refusal trafficBlocks trafficked
+refusing refusal = cardBy loaded moved cleared shown refusal trafficBlocks trafficked wholeRefusal wholeBlocks wholed
 
 abbrev pub counting : OfTraffic ℕ → Card
-counting blocks = cardBy loaded moved cleared shown trafficRefusal blocks trafficked
+counting blocks = cardBy loaded moved cleared shown trafficRefusal blocks trafficked wholeRefusal wholeBlocks wholed
 
 abbrev pub writing : OfTraffic (List ℕ) → Card
-writing buffer = cardBy loaded moved cleared shown trafficRefusal trafficBlocks buffer
+writing buffer = cardBy loaded moved cleared shown trafficRefusal trafficBlocks buffer wholeRefusal wholeBlocks wholed
+
+abbrev pub writingPdu : OfPdu (List ℕ) → Card
+writingPdu buffer = cardBy loaded moved cleared shown trafficRefusal trafficBlocks trafficked wholeRefusal wholeBlocks buffer
 
 -- what the lists of calls are made of: a key of TEA5 for any use, with side 0 at place 28; a key of one byte 24 times; an initial value of
 -- zeros, and one whose bit 28 is 1; one byte to cipher

@@ -75,7 +75,7 @@ next-key demand =
 
 -- a bit beside the span would be the same under two keys
 
-inside-of : {chosen : Origin → Bool} {how : Use} {buf : List ℕ} {w : Work} {trace : Trace} {x : Seen} {j : ℕ} → MayDiffer chosen (traffic how buf w) trace x j → spanOf w buf j ≡ true
+pub inside-of : {chosen : Origin → Bool} {how : Use} {buf : List ℕ} {w : Work} {trace : Trace} {x : Seen} {j : ℕ} → MayDiffer chosen (traffic how buf w) trace x j → spanOf w buf j ≡ true
 inside-of {buf = buf} {w = w} m =
     let work : w ≡ m .ciphers .work = cc (m .ciphers .call) in
     let bytes : buf ≡ m .ciphers .buf = cc (m .ciphers .call) in

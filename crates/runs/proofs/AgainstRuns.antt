@@ -57,7 +57,7 @@ module _ (card : Card) (loads : Loads card) where
 
 -- a send with that key, of n bits of one byte: it is accepted, and its bits are the keystream's
 
-may-send : (key : List ℕ) → useRefusal (holding key) 1 1 zeros ≡ 0
+pub may-send : (key : List ℕ) → useRefusal (holding key) 1 1 zeros ≡ 0
 unfolding holding useRefusalOf slotRefusalOf hasBad isBad isFilled isEmpty allZero bitAt bitOf
 may-send key = refl
 

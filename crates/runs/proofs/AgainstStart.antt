@@ -11,6 +11,7 @@ use Rattle.slots.specs.declared.Slot.{Slot}
 use Rattle.slots.specs.Slots.{allZero, isEmpty, isFilled, isBad, hasBad, empty, slotAt, emptyTable, withSlot}
 use Rattle.slots.specs.Calls.{loadRefusal, answered, loaded, moved, cleared, shown}
 use Rattle.traffic.specs.Traffic.{trafficRefusal, trafficBlocks, trafficked}
+use Rattle.whole.specs.Whole.{wholeRefusal, wholeBlocks, wholed}
 use Rattle.runs.specs.Calls.{read, end, more, same, slot, other-present, Starts}
 use Rattle.runs.specs.Card.{Card, step, cardBy}
 use Rattle.runs.specs.Run.{run}
@@ -30,7 +31,7 @@ leaksTea6 =
       number = pick (eqb (slotAt table number .fields .algorithm) 6) (keyByte table number) (shown table number .number);
       fields = shown table number .fields;
     })
-    trafficRefusal trafficBlocks trafficked
+    trafficRefusal trafficBlocks trafficked wholeRefusal wholeBlocks wholed
 
 abbrev tea6 : List ℕ → List Slot
 tea6 key = withSlot emptyTable 1 (made 7 6 1 0 28 key)

@@ -14,17 +14,18 @@ use prog.Memory.{Memory}
 use prog.Routine.{Routine}
 use prog.Wp.{Heap}
 use Rattle.slots.specs.declared.Slot.{Slot}
-use Rattle.card.specs.Faces.{asking}
+use Rattle.card.specs.Faces.{asking, pduAs}
 use Rattle.card.specs.Table.{shownAs}
 use Rattle.card.proofs.table.card_load as entry-load
 use Rattle.card.proofs.table.card_move as entry-move
 use Rattle.card.proofs.table.card_clear as entry-clear
 use Rattle.card.proofs.table.card_read as entry-read
 use Rattle.card.proofs.table.card_traffic as entry-traffic
-use Rattle.runs.specs.Calls.{span, Call, load, move, clear, read, traffic}
+use Rattle.card.proofs.table.card_pdu as entry-pdu
+use Rattle.runs.specs.Calls.{span, pdu, Call, load, move, clear, read, traffic}
 use Rattle.runs.specs.Step.{Step, changing, reading, ciphering}
 use Rattle.runs.specs.Card.{ourCard, step}
-use Rattle.runs.proofs.Lent.{lent-load-steps, lent-move-steps, lent-clear-steps, lent-read-steps, lent-traffic-steps}
+use Rattle.runs.proofs.Lent.{lent-load-steps, lent-move-steps, lent-clear-steps, lent-read-steps, lent-traffic-steps, lent-pdu-steps}
 
 -- a call of a function, as its caller has it: the arguments, the last value of all that was lent to be written, and the answer
 pub record Made (T : Ended) : Type 0 where
@@ -44,6 +45,7 @@ pub data Entry : Type 0 where
   card-clear : Made entry-clear.ended → Entry
   card-read : Made entry-read.ended → Entry
   card-traffic : Made entry-traffic.ended → Entry
+  card-pdu : Made entry-pdu.ended → Entry
 
 -- the records that it was lent
 abbrev pub before : Entry → List Slot
@@ -52,6 +54,7 @@ before (card-move m) = now (m .args .0)
 before (card-clear m) = now (m .args .0)
 before (card-read m) = now (m .args .0)
 before (card-traffic m) = now (m .args .0)
+before (card-pdu m) = now (m .args .0)
 
 -- the call that it is, in the terms of demand 3
 abbrev pub called : Entry → Call
@@ -64,6 +67,9 @@ called (card-read m) = let (t, (number, end)) = m .args in read number
 called (card-traffic m) =
     let (t, (direction, (number, (iv, (buf, (start, (n, (skip, end)))))))) = m .args in
     traffic (record { direction = direction; number = number; iv = now iv }) (now buf) (span start n skip)
+called (card-pdu m) =
+    let (t, (direction, (number, (iv, (buf, (kind, (state, (l, (a, (s, end)))))))))) = m .args in
+    traffic (record { direction = direction; number = number; iv = now iv }) (now buf) (pdu (pduAs kind state l a s))
 
 -- what C has afterwards: the records, and all that was given to it
 abbrev pub left : Entry → Step
@@ -76,6 +82,9 @@ left (card-read m) =
 left (card-traffic m) =
     let (t, (direction, (number, (iv, (buf, (start, (n, (skip, (blocks, end))))))))) = ends _ m in
     ciphering (now t) (m .answer) (now blocks) (now buf)
+left (card-pdu m) =
+    let (t, (direction, (number, (iv, (buf, (kind, (state, (l, (a, (s, (blocks, end))))))))))) = ends _ m in
+    ciphering (now t) (m .answer) (now blocks) (now buf)
 
 module _ {M : Type 1} (𝓤 : URA M) (H : Heap 𝓤) (A : Atoms 𝓤) (mem : Memory → SProp 𝓤) (run : Routine → Fun 𝓤) where
   -- what the entry's contract promises of the call
@@ -85,6 +94,7 @@ module _ {M : Type 1} (𝓤 : URA M) (H : Heap 𝓤) (A : Atoms 𝓤) (mem : Mem
   promised (card-clear m) = entry-clear.clauses 𝓤 H A mem run (m .κs) (m .args) .ensures tt (m .answer) (ends _ m)
   promised (card-read m) = entry-read.clauses 𝓤 H A mem run (m .κs) (m .args) .ensures tt (m .answer) (ends _ m)
   promised (card-traffic m) = entry-traffic.clauses 𝓤 H A mem run (m .κs) (m .args) .ensures tt (m .answer) (ends _ m)
+  promised (card-pdu m) = entry-pdu.clauses 𝓤 H A mem run (m .κs) (m .args) .ensures tt (m .answer) (ends _ m)
 
   -- the contract makes the call the step
   abbrev pub Steps : Entry → Type 1
@@ -104,3 +114,6 @@ module _ {M : Type 1} (𝓤 : URA M) (H : Heap 𝓤) (A : Atoms 𝓤) (mem : Mem
 
   pub card-traffic-steps : (m : Made entry-traffic.ended) → Steps (card-traffic m)
   card-traffic-steps m whole = fact-mono 𝓤 _ _ (λ e. (λ i. ciphering (before (card-traffic m)) (e i .refusal) (e i .blocks) (e i .buffer)) ∙ lent-traffic-steps _ whole _ _ _ _ _ _ _)
+
+  pub card-pdu-steps : (m : Made entry-pdu.ended) → Steps (card-pdu m)
+  card-pdu-steps m whole = fact-mono 𝓤 _ _ (λ e. (λ i. ciphering (before (card-pdu m)) (e i .refusal) (e i .blocks) (e i .buffer)) ∙ lent-pdu-steps _ whole _ _ _ _ _)

@@ -9,7 +9,7 @@ use borrow.Author.Tests.{eqb-true, ne-eqb, le-leb, ltb-false}
 use lib.Dec.{eqb}
 use lib.ListN.{length}
 use Rattle.laws.specs.Bits.{bitAt}
-use Rattle.laws.proofs.Cases.{pick-cases}
+use Rattle.laws.proofs.Cases.{pick-cases, neither}
 use Rattle.refusals.specs.Numbers.{done}
 use Rattle.fields.specs.declared.Asked.{Asked}
 use Rattle.fields.specs.Fields.{askedOf}
@@ -30,8 +30,15 @@ use Rattle.span.proofs.Laws.{length-xored, xored-outside}
 use Rattle.span.proofs.Stream.{stream-lt}
 use Rattle.traffic.specs.Traffic.{onSide, slotStream, useRefusalOf, trafficRefusalOf, trafficRefusal, trafficBlocksOf, traffickedOf, trafficked}
 use Rattle.traffic.proofs.Laws.{traffic-refused}
-use Rattle.traffic.proofs.Passed.{UsePassedOf, traffic-passed}
-use Rattle.runs.specs.Calls.{Use, Work, span, spanOf}
+use Rattle.traffic.proofs.Passed.{UsePassedOf, use-passed-of, traffic-passed}
+use Rattle.plan.specs.declared.Piece.{Piece}
+use Rattle.whole.specs.declared.Pdu.{Pdu}
+use Rattle.whole.specs.Whole.{openRefusalOf, wholePlan, wholeRefusalOf, wholeRefusal, ciphered, wholeBlocksOf, wholedOf, wholed}
+use Rattle.whole.proofs.Passed.{whole-passed}
+use Rattle.whole.proofs.Calls.{whole-refused}
+use Rattle.whole.proofs.Flag.{ciphered-outside}
+use Rattle.whole.proofs.Laws.{length-ciphered}
+use Rattle.runs.specs.Calls.{Use, Work, span, pdu, inPiece, spanOf}
 use Rattle.runs.specs.Step.{told, changing, reading}
 use Rattle.runs.specs.Card.{ourCard}
 use Rattle.runs.specs.Demand.{withUse}
@@ -114,9 +121,14 @@ sends-on-its-side table how buf (span start n skip) e send =
     let passed = traffic-passed table (how .direction) (how .number) (how .iv) buf start n skip e in
     let side : onSide 1 fields (how .iv) ≡ true = rw send at (passed .allowed .on-side) in
     eqb-true (bitAt (how .iv) (fields .place)) (fields .side) side
+sends-on-its-side table how buf (pdu u) e send =
+    let fields = slotAt table (how .number) .fields in
+    let side : onSide 1 fields (how .iv) ≡ true = rw send at (use-passed-of _ _ _ _ _ (whole-passed _ _ _ _ _ buf u e .room .allowed) .on-side) in
+    eqb-true (bitAt (how .iv) (fields .place)) (fields .side) side
 
 allowed : (table : List Slot) (how : Use) (buf : List ℕ) (w : Work) → ourCard .traffic table how buf w .seen .refusal ≡ done → UsePassedOf (hasBad table) (slotAt table (how .number)) (how .direction) (how .number) (how .iv)
 allowed table how buf (span start n skip) e = traffic-passed table (how .direction) (how .number) (how .iv) buf start n skip e .allowed
+allowed table how buf (pdu u) e = use-passed-of _ _ _ _ _ (whole-passed _ _ _ _ _ buf u e .room .allowed)
 
 has-its-place : Taken ourCard (λ slot how. slot .fields .place < 8 * length (how .iv))
 unfolding isFilled
@@ -134,22 +146,28 @@ on-a-filled-slot : (table : List Slot) (how : Use) (buf : List ℕ) (w : Work) �
 on-a-filled-slot table how buf w e = allowed table how buf w e .slot
 
 refusal-blind : Blind ourCard (λ x. x .refusal)
-unfolding trafficRefusalOf useRefusalOf
+unfolding trafficRefusalOf wholeRefusalOf openRefusalOf useRefusalOf
 refusal-blind a b alike how buf (span start n skip) =
+    rw (bad-alike a b alike, slot-refusal-alike a b alike (how .number), fields-alike a b alike (how .number))
+refusal-blind a b alike how buf (pdu u) =
     rw (bad-alike a b alike, slot-refusal-alike a b alike (how .number), fields-alike a b alike (how .number))
 
 blocks-blind : Blind ourCard (λ x. x .blocks)
-unfolding trafficBlocksOf
+unfolding trafficBlocksOf wholeBlocksOf
 blocks-blind a b alike how buf (span start n skip) = rw (refusal-blind a b alike how buf (span start n skip))
+blocks-blind a b alike how buf (pdu u) = rw (refusal-blind a b alike how buf (pdu u))
 
 number-blind : Blind ourCard (λ x. x .number)
 number-blind a b alike how buf (span start n skip) = refl
+number-blind a b alike how buf (pdu u) = refl
 
 fields-blind : Blind ourCard (λ x. x .fields)
 fields-blind a b alike how buf (span start n skip) = refl
+fields-blind a b alike how buf (pdu u) = refl
 
 traffic-leaves : (table : List Slot) (how : Use) (buf : List ℕ) (w : Work) → ourCard .traffic table how buf w .table ≡ table
 traffic-leaves table how buf (span start n skip) = refl
+traffic-leaves table how buf (pdu u) = refl
 
 -- what a traffic call makes of its buffer: itself, or its bits xored
 either-buffer : (P : List ℕ → Type 0) (table : List Slot) (how : Use) (buf : List ℕ) (start n skip : ℕ) → P (xored buf (slotStream (slotAt table (how .number)) (how .iv)) start skip n) → P buf
@@ -158,28 +176,48 @@ unfolding traffickedOf
 either-buffer P table how buf start n skip ciphered same =
     pick-cases P (eqb (trafficRefusal table (how .direction) (how .number) (how .iv) buf start n skip) done) (λ e. ciphered) (λ e. same)
 
+-- and a call for a whole PDU: itself, or its pieces xored
+either-pdu : (P : List ℕ → Type 0) (table : List Slot) (how : Use) (buf : List ℕ) (u : Pdu) → P (ciphered buf (slotStream (slotAt table (how .number)) (how .iv)) (wholePlan buf u)) → P buf
+    → P (wholed table (how .direction) (how .number) (how .iv) buf u)
+unfolding wholedOf
+either-pdu P table how buf u done-so same = pick-cases P (eqb (wholeRefusal table (how .direction) (how .number) (how .iv) buf u) done) (λ e. done-so) (λ e. same)
+
 -- no bit of a span
 beside-span : (start n skip j : ℕ) (buf : List ℕ) → spanOf (span start n skip) buf j ≡ false → Beside start n j
 beside-span start n skip j buf out low = ltb-false j _ (rw (le-leb start j low) at out)
+
+-- no bit of a piece
+beside-piece : (p : Piece) (j : ℕ) → inPiece p j ≡ false → Beside (p .start) (p .length) j
+beside-piece p j out low = ltb-false j _ (rw (le-leb (p .start) j low) at out)
 
 beside-stays : (table : List Slot) (how : Use) (buf : List ℕ) (w : Work) (j : ℕ) → spanOf w buf j ≡ false → bitAt (ourCard .traffic table how buf w .seen .buffer) j ≡ bitAt buf j
 beside-stays table how buf (span start n skip) j out =
     either-buffer (λ l. bitAt l j ≡ bitAt buf j) table how buf start n skip
     (xored-outside (slotStream (slotAt table (how .number)) (how .iv)) (stream-lt _) buf start skip n j (beside-span start n skip j buf out)) refl
+beside-stays table how buf (pdu u) j out =
+    let p = wholePlan buf u in
+    let beside = neither (inPiece (p .first) j) (inPiece (p .second) j) out in
+    either-pdu (λ l. bitAt l j ≡ bitAt buf j) table how buf u
+    (ciphered-outside (slotStream (slotAt table (how .number)) (how .iv)) (stream-lt _) buf p j (beside-piece (p .first) j (beside .0)) (beside-piece (p .second) j (beside .1))) refl
 
 size-stays : (table : List Slot) (how : Use) (buf : List ℕ) (w : Work) → length (ourCard .traffic table how buf w .seen .buffer) ≡ length buf
 size-stays table how buf (span start n skip) =
     either-buffer (λ l. length l ≡ length buf) table how buf start n skip
     (length-xored buf (slotStream (slotAt table (how .number)) (how .iv)) start skip n) refl
+size-stays table how buf (pdu u) =
+    either-pdu (λ l. length l ≡ length buf) table how buf u
+    (length-ciphered (slotStream (slotAt table (how .number)) (how .iv)) (stream-lt _) buf (wholePlan buf u)) refl
 
 refused-stays : (table : List Slot) (how : Use) (buf : List ℕ) (w : Work) → (ourCard .traffic table how buf w .seen .refusal ≡ done → ⊥) → ourCard .traffic table how buf w .seen .buffer ≡ buf
 refused-stays table how buf (span start n skip) = traffic-refused table (how .direction) (how .number) (how .iv) buf start n skip
+refused-stays table how buf (pdu u) = whole-refused (hasBad table) (slotAt table (how .number)) (how .direction) (how .number) (how .iv) buf u
 
 own-key-alone : (a b : List Slot) → Alike a b → (how : Use) (buf : List ℕ) (w : Work) → slotAt a (how .number) .key ≡ slotAt b (how .number) .key
     → ourCard .traffic a how buf w .seen .buffer ≡ ourCard .traffic b how buf w .seen .buffer
-unfolding traffickedOf
+unfolding traffickedOf wholedOf
 own-key-alone a b alike how buf (span start n skip) key =
     rw (refusal-blind a b alike how buf (span start n skip), key, fields-alike a b alike (how .number))
+own-key-alone a b alike how buf (pdu u) key = rw (refusal-blind a b alike how buf (pdu u), key, fields-alike a b alike (how .number))
 
 pub our-facts : Local ourCard
 our-facts = record {

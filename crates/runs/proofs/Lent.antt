@@ -6,8 +6,9 @@ use borrow.Author.Tests.{eq-eqb}
 use lib.ListN.{length}
 use Rattle.fields.specs.declared.Asked.{Asked}
 use Rattle.slots.specs.declared.Slot.{Slot}
-use Rattle.card.specs.Table.{loadedIn, movedIn, clearedIn, shownIn, trafficRefusalIn, trafficBlocksIn, traffickedIn}
-use Rattle.runs.specs.Calls.{span, load, move, clear, read, traffic}
+use Rattle.card.specs.Table.{loadedIn, movedIn, clearedIn, shownIn, trafficRefusalIn, trafficBlocksIn, traffickedIn, wholeRefusalIn, wholeBlocksIn, wholedIn}
+use Rattle.whole.specs.declared.Pdu.{Pdu}
+use Rattle.runs.specs.Calls.{span, pdu, load, move, clear, read, traffic}
 use Rattle.runs.specs.Step.{changing, reading, ciphering}
 use Rattle.runs.specs.Card.{ourCard, step}
 
@@ -33,3 +34,9 @@ module _ (t : List Slot) (whole : length t ≡ 32) where
       ≡ step ourCard t (traffic (record { direction = direction; number = number; iv = iv }) buf (span begin n skip))
   unfolding step
   lent-traffic-steps direction number iv buf begin n skip = rw (eq-eqb (length t) 32 whole)
+
+  pub lent-pdu-steps : (direction number : ℕ) (iv buf : List ℕ) (u : Pdu)
+      → ciphering t (wholeRefusalIn t direction number iv buf u) (wholeBlocksIn t direction number iv buf u) (wholedIn t direction number iv buf u)
+      ≡ step ourCard t (traffic (record { direction = direction; number = number; iv = iv }) buf (pdu u))
+  unfolding step
+  lent-pdu-steps direction number iv buf u = rw (eq-eqb (length t) 32 whole)

@@ -9,6 +9,7 @@ pub mod Against
 pub mod AgainstAnswers
 pub mod AgainstRuns
 pub mod AgainstBits
+pub mod AgainstPdu
 pub mod AgainstShown
 pub mod AgainstSends
 pub mod AgainstTraces

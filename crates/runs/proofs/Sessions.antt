@@ -22,7 +22,7 @@ use Rattle.runs.specs.Step.{Seen, Step}
 use Rattle.runs.specs.Card.{ourCard, step}
 use Rattle.runs.specs.Run.{State, startOf, next, run as runOf, stateAt, callAt, seenIn, traceAt}
 use Rattle.runs.specs.Demand.{Agree}
-use Rattle.runs.proofs.Entries.{Entry, card-load, card-move, card-clear, card-read, card-traffic, before, called, left, promised, Steps, card-load-steps, card-move-steps, card-clear-steps, card-read-steps, card-traffic-steps}
+use Rattle.runs.proofs.Entries.{Entry, card-load, card-move, card-clear, card-read, card-traffic, card-pdu, before, called, left, promised, Steps, card-load-steps, card-move-steps, card-clear-steps, card-read-steps, card-traffic-steps, card-pdu-steps}
 use Rattle.runs.proofs.Local.{loadedSlot, Leaves}
 use Rattle.runs.proofs.Facts.{our-facts}
 use Rattle.runs.proofs.Demand.{demand-3}
@@ -106,6 +106,7 @@ module _ {M : Type 1} (𝓤 : URA M) (H : Heap 𝓤) (A : Atoms 𝓤) (mem : Mem
   entry-steps (card-clear m) = card-clear-steps 𝓤 H A mem run m
   entry-steps (card-read m) = card-read-steps 𝓤 H A mem run m
   entry-steps (card-traffic m) = card-traffic-steps 𝓤 H A mem run m
+  entry-steps (card-pdu m) = card-pdu-steps 𝓤 H A mem run m
 
   run-from : (s : State) → length (s .table) ≡ 32 → (xs : List Entry) → Follow (s .table) xs → ent 𝓤 (promises xs) (fact 𝓤 (IsRun s xs))
   unfolding runOf stateAt

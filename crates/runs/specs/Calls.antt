@@ -1,6 +1,6 @@
 -- The calls of demand 3, each with every argument of the card's call, bad ones included; and two lists of them, and two tables to start from,
 -- that are alike but for keys. Assumes nothing: these are definitions.
-use mathlib.Core.Bool.{Bool, true, false, _&&_}
+use mathlib.Core.Bool.{Bool, true, false, _&&_, _||_}
 use mathlib.Core.List.{List, [], _∷_}
 use mathlib.Core.Path.{_≡_}
 use Prim.Native.Nat.{ℕ, suc, _+_}
@@ -10,6 +10,9 @@ use Rattle.fields.specs.declared.Asked.{Asked}
 use Rattle.fields.specs.declared.Fields.{Fields}
 use Rattle.slots.specs.declared.Slot.{Slot}
 use Rattle.slots.specs.Slots.{isFilled, hasBad}
+use Rattle.plan.specs.declared.Piece.{Piece}
+use Rattle.whole.specs.declared.Pdu.{Pdu}
+use Rattle.whole.specs.Whole.{wholePlan}
 
 -- how a traffic call uses a key: 1 send or 2 receive, the slot's number, and the initial value
 pub record Use : Type 0 where
@@ -17,13 +20,19 @@ pub record Use : Type 0 where
   pub number : ℕ
   pub iv : List ℕ
 
--- what it does to its buffer: n bits from start on are ciphered, with the keystream's bits from skip on
+-- what it does to its buffer: n bits from start on are ciphered, with the keystream's bits from skip on; or the pieces of the PDU that it holds
 pub data Work : Type 0 where
   span : (start n skip : ℕ) → Work
+  pdu : (u : Pdu) → Work
+
+-- the bits of a piece
+abbrev pub inPiece : Piece → ℕ → Bool
+inPiece p j = leb (p .start) j && ltb j (p .start + p .length)
 
 -- the bits of a buffer that are ciphered
 abbrev pub spanOf : Work → List ℕ → ℕ → Bool
 spanOf (span start n skip) buf j = leb start j && ltb j (start + n)
+spanOf (pdu u) buf j = inPiece (wholePlan buf u .first) j || inPiece (wholePlan buf u .second) j
 
 pub data Call : Type 0 where
   load : (number : ℕ) (a : Asked) (key : List ℕ) → Call

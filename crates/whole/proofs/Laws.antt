@@ -33,7 +33,7 @@ use Rattle.whole.proofs.Flag.{ciphered-outside, flag-kept, same-plan}
 use Rattle.whole.proofs.Calls.{whole-open, whole-accepted, whole-blocks}
 
 module _ (k : ℕ → ℕ) (binary : Binary k) (buf : List ℕ) (p : Plan) where
-  length-ciphered : length (ciphered buf k p) ≡ length buf
+  pub length-ciphered : length (ciphered buf k p) ≡ length buf
   length-ciphered = length-xored (throughRun buf k (runOf (p .first))) k _ _ _ ∙ length-xored buf k _ _ _
 
   -- the same pieces twice give the buffer back

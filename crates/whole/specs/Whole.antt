@@ -10,6 +10,7 @@ use Rattle.laws.specs.Choice.{pick}
 use Rattle.laws.specs.Bits.{bitAt}
 use Rattle.refusals.specs.Numbers.{done, bufferLarge, spanOutside, refuse}
 use Rattle.slots.specs.declared.Slot.{Slot}
+use Rattle.slots.specs.Slots.{hasBad, slotAt}
 use Rattle.plan.specs.declared.Piece.{Piece}
 use Rattle.plan.specs.declared.Plan.{Plan}
 use Rattle.plan.specs.Plan.{planRefusal, planOf}
@@ -71,3 +72,14 @@ planBlocks p = blocksOver (runOf (p .first)) (runOf (p .second))
 unfoldable pub wholeBlocksOf : Bool → Slot → ℕ → ℕ → List ℕ → List ℕ → Pdu → ℕ
 wholeBlocksOf bad slot direction number iv buf u =
     pick (eqb (wholeRefusalOf bad slot direction number iv buf u) done) (planBlocks (wholePlan buf u)) 0
+
+-- the same of a table
+
+abbrev pub wholeRefusal : List Slot → ℕ → ℕ → List ℕ → List ℕ → Pdu → ℕ
+wholeRefusal table direction number iv buf u = wholeRefusalOf (hasBad table) (slotAt table number) direction number iv buf u
+
+abbrev pub wholed : List Slot → ℕ → ℕ → List ℕ → List ℕ → Pdu → List ℕ
+wholed table direction number iv buf u = wholedOf (hasBad table) (slotAt table number) direction number iv buf u
+
+abbrev pub wholeBlocks : List Slot → ℕ → ℕ → List ℕ → List ℕ → Pdu → ℕ
+wholeBlocks table direction number iv buf u = wholeBlocksOf (hasBad table) (slotAt table number) direction number iv buf u
