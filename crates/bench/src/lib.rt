@@ -11,6 +11,7 @@ use ciphering::lent::iv_of;
 use ciphering::lent::key_of;
 use ciphering::span_refusals::span_refusal;
 use ciphering::xor::cipher_from;
+use keystream::Run;
 use keystream::Tally;
 use refusals::refuse;
 
@@ -55,7 +56,12 @@ fn write_keystream(buf: &mut [u8], n: usize, algorithm: u64, ck: [u8; 24], iv: [
         × (r .blocks ≡ blocksUsed 0 n) ⌝ }
 {
     span::clear_front(buf, n);
-    cipher_from(buf, 0, n, 0, algorithm, ck, iv)
+    let run = Run {
+        start: 0,
+        n,
+        skip: 0,
+    };
+    cipher_from(buf, run, algorithm, ck, iv)
 }
 
 // Writes keystream bits 0 to n - 1 from bit 0 of the buffer on, keeps its later bits, and reports how many blocks were made.

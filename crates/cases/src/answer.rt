@@ -3,6 +3,7 @@ use crate::case::buffer_size;
 use crate::case::iv_of;
 use crate::case::key_of;
 use crate::case::value;
+use keystream::Run;
 use lines::after_spaces;
 use lines::bytes::read_bytes;
 use tea::mixing::mixed_value;
@@ -52,7 +53,12 @@ fn cipher(buf: &mut [u8], line: &[u8])
     let ck = key_of(line);
     let iv = iv_of(line);
     read_bytes(after_spaces(line, 6), buf);
-    ciphering::xor::cipher_from(buf, start, bits, skip, algorithm, ck, iv);
+    let run = Run {
+        start,
+        n: bits,
+        skip,
+    };
+    ciphering::xor::cipher_from(buf, run, algorithm, ck, iv);
 }
 
 // The ciphered buffer and LF, by way of a lent buffer of its size.

@@ -5,6 +5,7 @@ ghost use lib.ListN.{length};
 ghost use Rattle.span.specs.Span.{written, blocksUsed};
 ghost use Rattle.keystream.specs.Stream.{keystream};
 ghost use Rattle.plain.specs.Given.{givenRefusal, given, givenBlocks};
+use ciphering::Report;
 use ciphering::lent::iv_of;
 use ciphering::lent::key_of;
 use keystream::Tally;
@@ -27,25 +28,23 @@ fn write_keystream(
 }
 
 // By the quick engine: the tables, the list of mixed bytes, the schedule of 32-bit words.
-pub fn quick(
-    algorithm: u64,
-    key: &[u8],
-    iv: &[u8],
-    buf: &mut [u8],
-    n: usize,
-    skip: usize,
-    blocks: &mut usize,
-) -> u8
-    ensures { λ r. ⌜ (r ≡ givenRefusal algorithm (now (key .entry)) (now (iv .entry)) (now (buf .entry)) n skip)
+pub fn quick(algorithm: u64, key: &[u8], iv: &[u8], buf: &mut [u8], n: usize, skip: usize) -> Report
+    ensures { λ r. ⌜ (r .refusal ≡ givenRefusal algorithm (now (key .entry)) (now (iv .entry)) (now (buf .entry)) n skip)
         × (now (buf .exit) ≡ given algorithm (now (key .entry)) (now (iv .entry)) (now (buf .entry)) n skip)
-        × (now (blocks .exit) ≡ givenBlocks algorithm (now (key .entry)) (now (iv .entry)) (now (buf .entry)) n skip) ⌝ }
+        × (r .blocks ≡ givenBlocks algorithm (now (key .entry)) (now (iv .entry)) (now (buf .entry)) n skip) ⌝ }
 {
-    *blocks = 0;
     let refusal = refusal_of(algorithm, key, iv, &buf[..], n, skip);
     if refusal != refusals::DONE {
-        return refusal;
+        return Report {
+            refusal,
+            blocks: 0,
+            schedules: 0,
+        };
     }
     let made = write_keystream(buf, n, skip, algorithm, key_of(key), iv_of(iv));
-    *blocks = made.blocks;
-    refusals::DONE
+    Report {
+        refusal,
+        blocks: made.blocks,
+        schedules: made.schedules,
+    }
 }

@@ -8,6 +8,7 @@ use ciphering::lent::iv_of;
 use ciphering::span_refusals::span_refusal;
 use ciphering::xor::cipher_from;
 use fields::Fields;
+use keystream::Run;
 use refusals::refuse;
 use slots::Slot;
 
@@ -117,7 +118,8 @@ pub fn traffic_of(
     }
     let f = slot.fields;
     let key = slot.key;
-    let made = cipher_from(buf, start, n, skip, f.algorithm as u64, key, iv_of(iv));
+    let run = Run { start, n, skip };
+    let made = cipher_from(buf, run, f.algorithm as u64, key, iv_of(iv));
     Report {
         refusal,
         blocks: made.blocks,

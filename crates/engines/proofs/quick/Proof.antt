@@ -6,7 +6,6 @@ use borrow.Author.Needs.{needs}
 use Rattle.span.specs.Span.{written}
 use Rattle.keystream.specs.Stream.{keystream}
 use Rattle.bench.proofs.Passed.{KeyedPassed, keyed-passed}
-use Rattle.plain.specs.Given.{givenRefusal}
 use Rattle.plain.proofs.Given.{given-refused, given-done}
 use Rattle.engines.proofs.quick.Statement.{statement}
 use Rattle.engines.proofs.quick.Tie as tie
@@ -14,11 +13,8 @@ use Rattle.engines.proofs.quick.Tie as tie
 abbrev start : tie.Else1 → tie.Start
 start e = e .before .before .before .before .before .before
 
-accepted : (e : tie.Else1) → givenRefusal (start e .args .algorithm) (start e .args .key .now) (start e .args .iv .now) (start e .args .buf .now) (start e .args .n) (start e .args .skip) ≡ 0
-accepted e = sym (e .before .refusal-of .ensures) ∙ e .if1 .left
-
 passed : (e : tie.Else1) → KeyedPassed (length (start e .args .key .now)) (length (start e .args .iv .now)) (length (start e .args .buf .now)) 0 (start e .args .n) (start e .args .skip)
-passed e = keyed-passed _ _ _ _ _ _ _ (accepted e)
+passed e = keyed-passed _ _ _ _ _ _ _ (sym (e .before .refusal-of .ensures) ∙ e .if1 .left)
 
 returns : tie.Need-returns
 returns c =
@@ -41,8 +37,8 @@ returns-2 c =
     let iv = ran .before in
     let e = iv .before .before .before in
     let a = start e .args in
-    let yes = given-done (a .algorithm) (a .key .now) (a .iv .now) (a .buf .now) (a .n) (a .skip) (accepted e) in (
-      sym (accepted e),
+    let yes = given-done (a .algorithm) (a .key .now) (a .iv .now) (a .buf .now) (a .n) (a .skip) (sym (e .before .refusal-of .ensures) ∙ e .if1 .left) in (
+      e .before .refusal-of .ensures,
       ran .write-keystream .ensures .0
           ∙ (λ i. written (a .buf .now) (keystream (a .algorithm) (iv .before .key-of .ensures i) (iv .iv-of .ensures i)) 0 (a .skip) (a .n))
           ∙ sym (yes .0),

@@ -35,7 +35,7 @@ iv-of-requires : tie.Need-iv-of-requires
 iv-of-requires c κs = passed (c .before .before .before .before) .allowed .iv-10
 
 cipher-from-requires : tie.Need-cipher-from-requires
-cipher-from-requires c κs = let s = passed (c .before .before .before .before .before) .span in (s .small, omega arith, omega arith)
+cipher-from-requires c κs = let s = passed (c .before .before .before .before .before) .span in (s .small, record { inside = omega arith; streamed = omega arith })
 
 returns-2 : tie.Need-returns-2
 unfolding traffickedOf trafficBlocksOf

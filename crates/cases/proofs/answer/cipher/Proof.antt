@@ -33,7 +33,7 @@ cipher-from-requires c κs =
     let start = c .before .before .before .before .before .before .before .before .before .before .value2 .ensures in
     let bits = c .before .before .before .before .before .before .before .before .before .value3 .ensures in
     let skip = c .before .before .before .before .before .before .before .before .value4 .ensures in
-    (omega arith, omega arith, omega arith)
+    (omega arith, record { inside = omega arith; streamed = omega arith })
 
 returns : tie.Need-returns
 unfolding ciphered caseOf

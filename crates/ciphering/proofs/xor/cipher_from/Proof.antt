@@ -13,13 +13,14 @@ use Rattle.ciphering.proofs.xor.cipher_from.Tie as tie
 returns : tie.Need-returns
 returns c =
     let done = c .before .before in
-    let a = done .before .before .before .args in
+    let a = done .before .before .before .before .before .args in
+    let p = a .run in
     let k = keystream (a .algorithm) (a .ck) (a .iv) in
-    let start : 8 * (a .start / 8) + a .start % 8 ≡ a .start = omega arith in
+    let start : 8 * (p .start / 8) + p .start % 8 ≡ p .start = omega arith in
     let made = done .xor-keystream .ensures in (
-      tail-back (a .buf .now) (done .xor-keystream .last .0) k (a .start / 8) (a .start % 8) (a .skip) (a .n) (stream-lt _) (omega arith)
+      tail-back (a .buf .now) (done .xor-keystream .last .0) k (p .start / 8) (p .start % 8) (p .skip) (p .n) (stream-lt _) (omega arith)
           (made .0) (λ q. omega (arith, c .slice-known2 .given q))
-          ∙ ap (λ (m : ℕ). xored (a .buf .now) k m (a .skip) (a .n)) start,
+          ∙ ap (λ (m : ℕ). xored (a .buf .now) k m (p .skip) (p .n)) start,
       made .1,
       made .2,
     )
