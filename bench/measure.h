@@ -10,6 +10,10 @@ int measure_bench(void);
    missed. */
 int measure_traffic(void);
 
+/* Measures a PDU of two pieces beside traffic, and prints a line for each bar. Returns how many bars are missed, or -1 where
+   it isn't the traffic of its pieces. */
+int measure_pdu(void);
+
 /* Measures load, read, move, clear and a refused call, and prints a line for each. They have no bar. Returns 1 if a call
    isn't answered as it must be. */
 int measure_slots(void);

@@ -18,11 +18,11 @@ static uint8_t load(struct card_slot *table)
 
 static uint8_t read(struct card_slot *table)
 {
-    uint64_t there;
+    uint64_t found;
     uint16_t version;
     uint8_t algorithm, usage, side, place;
 
-    return card_read(table, CARD_SLOTS, FROM, &there, &version, &algorithm, &usage, &side, &place);
+    return card_read(table, CARD_SLOTS, FROM, &found, &version, &algorithm, &usage, &side, &place);
 }
 
 static uint8_t move(struct card_slot *table)

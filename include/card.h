@@ -70,6 +70,17 @@ enum card_use { CARD_KEEP = 0, CARD_FOR_SENDING = 1, CARD_FOR_RECEIVING = 2, CAR
 
 enum card_direction { CARD_SEND = 1, CARD_RECEIVE = 2 };
 
+/* Which direct mode PDU it is. */
+enum card_pdu_kind { CARD_DMAC_DATA = 1, CARD_DMAC_SYNC_SCH_H = 2, CARD_DMAC_SYNC_SCH_S = 3 };
+
+/* A PDU's encryption state: what of it is ciphered. A DMAC-SYNC on SCH/S is clear in every state. */
+enum card_pdu_state {
+    CARD_ALL_CLEAR = 0,
+    CARD_AFTER_HEAD = 1,     /* what follows the head: 10 bits of a DMAC-DATA, 12 of a DMAC-SYNC, 18 if its flag is 1 */
+    CARD_SDU = 2,            /* the DM-SDU */
+    CARD_ADDRESS_AND_SDU = 3 /* the address and the DM-SDU */
+};
+
 /* A slot. All bytes zero: empty. Filled: a version of 0..65535, an algorithm of 5..7, a use of 1..3, a side of 0..1, a
    place of 0..79 and any key. Anything else is a bad slot, and one bad slot refuses every call on the table.
    Bit 0 of a byte is its most significant bit. A send needs bit `place` of the initial value equal to `side`, a receive
@@ -116,23 +127,33 @@ uint8_t card_clear(struct card_slot *table, size_t slots, uint64_t number);
 uint8_t card_read(const struct card_slot *table, size_t slots, uint64_t number, uint64_t *found, uint16_t *version,
                   uint8_t *algorithm, uint8_t *usage, uint8_t *side, uint8_t *place);
 
-/* Ciphers: bit start + i of the buffer becomes itself xor keystream bit skip + i, for each i below `length`, and every
-   other bit stays. The same call again brings the buffer back. `blocks` becomes the number of keystream blocks, of 256
-   bits, in which a used bit lies. start, length and skip may be any numbers: their sums never wrap.
+/* Ciphers: bit start_bit + i of the buffer becomes itself xor keystream bit skip_bits + i, for each i below length_bits,
+   and every other bit stays. The same call again brings the buffer back. `blocks` becomes the number of keystream blocks, of 256
+   bits, in which a used bit lies. Start, length and skip may be any numbers: their sums never wrap.
    Refused: 16, 10, 7, 8, 12, 3, 13, 5, 4, 6. */
 uint8_t card_traffic(const struct card_slot *table, size_t slots, uint64_t direction, uint64_t number,
-                     const uint8_t *iv, size_t iv_bytes, uint8_t *buffer, size_t buffer_bytes, size_t start,
-                     size_t length, size_t skip, size_t *blocks);
+                     const uint8_t *iv, size_t iv_bytes, uint8_t *buffer, size_t buffer_bytes, size_t start_bit,
+                     size_t length_bits, size_t skip_bits, size_t *blocks);
+
+/* Ciphers a whole PDU, which stands in the buffer from bit 0 on: every piece that card_plan has for it, or no bit. The
+   fragmentation flag is read from the PDU: bit 12, numbered from 1, of a DMAC-SYNC on SCH/H of 12 bits or more, and 0
+   otherwise. The same call again brings the PDU back. `blocks` becomes the number of different keystream blocks in which
+   a used bit lies, also where two pieces share one; at most 33, and 0 where there is no piece. The buffer may be longer
+   than the PDU; its bits from length_bits on stay. card_cipher_pdu, below, takes the PDU's parts by name.
+   Refused: 16, 10, 7, 8, 12, 3, 13, 5, 6 (length_bits above the buffer's bits), 18, 19. */
+uint8_t card_pdu(const struct card_slot *table, size_t slots, uint64_t direction, uint64_t number, const uint8_t *iv,
+                 size_t iv_bytes, uint8_t *buffer, size_t buffer_bytes, uint64_t kind, uint64_t state,
+                 size_t length_bits, size_t address_bit, size_t sdu_bit, size_t *blocks);
 
 /*
  * Calls without a table.
  */
 
-/* Writes keystream bits 0 to length - 1 from bit 0 of the buffer on, and keeps the buffer's later bits: to compare the
+/* Writes keystream bits 0 to length_bits - 1 from bit 0 of the buffer on, and keeps the buffer's later bits: to compare the
    card with another.
    Refused: 1, 2, 3, 5, 4, 6. */
 uint8_t card_bench(uint64_t algorithm, const uint8_t *key, size_t key_bytes, const uint8_t *iv, size_t iv_bytes,
-                   uint8_t *buffer, size_t buffer_bytes, size_t length, size_t *blocks);
+                   uint8_t *buffer, size_t buffer_bytes, size_t length_bits, size_t *blocks);
 
 /* Reads one record, seven lines of text, from the front of a text. `shown` becomes number, version, algorithm, use,
    side and place, `used` the bytes that the record took; what follows it is not judged. On refusal 15, `line` and
@@ -155,14 +176,39 @@ uint8_t card_record_write(uint64_t number, uint16_t version, uint64_t algorithm,
    CARD_LISTING_BYTES bytes stays as it is, and the answer is 0. */
 size_t card_slotlist(const uint8_t *sheet, size_t sheet_bytes, uint8_t *buffer, size_t buffer_bytes);
 
-/* Which bits of a direct mode PDU are ciphered. kind: 1 DMAC-DATA, 2 DMAC-SYNC on SCH/H, 3 DMAC-SYNC on SCH/S; state:
-   0..3; flag: the fragmentation flag, 0 or 1; the PDU's length, and where its address and its DM-SDU start, in bits
-   from 0. `pieces` becomes start, length and skip of the first piece and of the second; zeros where there is none. In
-   state 3 the DM-SDU's skip is 24 + n + 1, with n the bits between the address and it, and a plan that would need
-   keystream bit 8,288 is refused with 19.
+/* Which bits of a direct mode PDU are ciphered, by its kind, its state, its fragmentation flag (0 or 1), its length, and
+   where its address and its DM-SDU start, in bits from 0. `pieces` becomes start, length and skip of the first piece and of
+   the second; zeros where there is none. In state 3 the DM-SDU's skip is 24 + n + 1, with n the bits between the address
+   and it, and a plan that would need keystream bit 8,288 is refused with 19. card_plan_pdu, below, takes the parts by name.
    Refused: 18, 19. */
-uint8_t card_plan(uint64_t kind, uint64_t state, uint64_t flag, size_t length, size_t address, size_t sdu,
+uint8_t card_plan(uint64_t kind, uint64_t state, uint64_t flag, size_t length_bits, size_t address_bit, size_t sdu_bit,
                   size_t pieces[6]);
+
+/*
+ * The same by name: a kind in the place of a state, or a start in that of a length, would leave a PDU in the clear and
+ * be no fault of a call.
+ */
+
+/* What a PDU is, and where in it what starts, in bits from 0. What a state doesn't use may be anything. */
+struct card_pdu_parts {
+    enum card_pdu_kind kind;
+    enum card_pdu_state state;
+    size_t length_bits; /* without fill bits */
+    size_t address_bit, sdu_bit;
+};
+
+static inline uint8_t card_plan_pdu(struct card_pdu_parts pdu, uint64_t flag, size_t pieces[6])
+{
+    return card_plan(pdu.kind, pdu.state, flag, pdu.length_bits, pdu.address_bit, pdu.sdu_bit, pieces);
+}
+
+static inline uint8_t card_cipher_pdu(const struct card_slot *table, size_t slots, enum card_direction direction,
+                                      uint64_t number, const uint8_t *iv, size_t iv_bytes, uint8_t *buffer,
+                                      size_t buffer_bytes, struct card_pdu_parts pdu, size_t *blocks)
+{
+    return card_pdu(table, slots, direction, number, iv, iv_bytes, buffer, buffer_bytes, pdu.kind, pdu.state,
+                    pdu.length_bits, pdu.address_bit, pdu.sdu_bit, blocks);
+}
 
 #ifdef __cplusplus
 }

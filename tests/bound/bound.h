@@ -18,6 +18,8 @@ uint8_t bound_clear(uint64_t number);
 uint8_t bound_read(uint64_t number);
 uint8_t bound_traffic(uint64_t direction, uint64_t number, const uint8_t iv[CARD_IV_BYTES], uint8_t *buffer,
                       size_t buffer_bytes, size_t start, size_t length, size_t skip);
+uint8_t bound_pdu(uint64_t direction, uint64_t number, const uint8_t iv[CARD_IV_BYTES], uint8_t *buffer,
+                  size_t buffer_bytes, const struct card_pdu_parts *pdu);
 uint8_t bound_bench(uint64_t algorithm, const uint8_t key[CARD_KEY_BYTES], const uint8_t iv[CARD_IV_BYTES],
                     uint8_t *buffer, size_t buffer_bytes, size_t length);
 uint8_t bound_record_read(const uint8_t *text, size_t text_bytes);

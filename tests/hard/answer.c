@@ -9,13 +9,13 @@
 const struct face card_face = {
     "card's",     card_load,  card_move,        card_clear,        card_read,
     card_traffic, card_bench, card_record_read, card_record_write, card_plan,
-    card_plain,   card_slotlist,
+    card_plain,   card_slotlist, card_pdu,
 };
 
 const struct face oracle_face = {
     "second program's", oracle_load,  oracle_move,        oracle_clear,        oracle_read,
     oracle_traffic,     oracle_bench, oracle_record_read, oracle_record_write, oracle_plan,
-    oracle_plain,       oracle_slotlist,
+    oracle_plain,       oracle_slotlist, oracle_pdu,
 };
 
 static void *lend_table(const struct table *table)
@@ -105,6 +105,18 @@ static void make_traffic(const struct face *face, const struct call *call, struc
     take_number(0, outcome);
 }
 
+static void make_pdu(const struct face *face, const struct call *call, struct outcome *outcome)
+{
+    outcome->answer =
+        face->pdu(lend_table_to_read(&outcome->table), outcome->table.slots, call->direction, call->number,
+                  lend_bytes(IV_ROOM, &call->iv), call->iv.count, lend_buffer(&call->buffer), call->buffer.count,
+                  call->pdu_kind, call->state, call->length, call->address, call->sdu, lend_number(0, sizeof(size_t)));
+    take_table(outcome);
+    take_bytes(IV_ROOM);
+    room_take(BUFFER_ROOM, outcome->buffer.at);
+    take_number(0, outcome);
+}
+
 static void make_bench(const struct face *face, const struct call *call, struct outcome *outcome)
 {
     outcome->answer = face->bench(call->algorithm, lend_bytes(KEY_ROOM, &call->key), call->key.count,
@@ -173,7 +185,7 @@ void answer(const struct face *face, const struct call *call, const struct table
 {
     static void (*const make[KINDS])(const struct face *, const struct call *, struct outcome *) = {
         make_load,        make_move,         make_clear, make_read,  make_traffic,  make_bench,
-        make_record_read, make_record_write, make_plan,  make_plain, make_slotlist,
+        make_record_read, make_record_write, make_plan,  make_plain, make_slotlist, make_pdu,
     };
 
     report_whose(face->whose);

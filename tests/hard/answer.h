@@ -18,6 +18,7 @@ struct face {
     __typeof__(card_plan) *plan;
     __typeof__(card_plain) *plain;
     __typeof__(card_slotlist) *slotlist;
+    __typeof__(card_pdu) *pdu;
 };
 
 extern const struct face card_face, oracle_face;

@@ -5,7 +5,7 @@
 #include <string.h>
 
 const char *const kind_names[KINDS] = {"load",        "move",         "clear", "read",  "traffic", "bench",
-                                       "record_read", "record_write", "plan",  "plain", "slotlist"};
+                                       "record_read", "record_write", "plan",  "plain", "slotlist", "pdu"};
 
 void bytes_copy(struct bytes *to, const struct bytes *from)
 {
@@ -28,6 +28,18 @@ void call_copy(struct call *to, const struct call *from)
     bytes_copy(&to->buffer, &from->buffer);
 }
 
+int bit_at(const struct bytes *bytes, size_t place)
+{
+    return bytes->at[place / 8] >> (7 - place % 8) & 1;
+}
+
+void set_bit(struct bytes *bytes, size_t place, int bit)
+{
+    uint8_t mask = (uint8_t)(0x80 >> place % 8);
+
+    bytes->at[place / 8] = (uint8_t)((bytes->at[place / 8] & ~mask) | (bit ? mask : 0));
+}
+
 int bytes_same(const struct bytes *a, const struct bytes *b)
 {
     return a->count == b->count && memcmp(a->at, b->at, a->count) == 0;
@@ -40,12 +52,12 @@ int table_same(const struct table *a, const struct table *b)
 
 int kind_has_table(enum kind kind)
 {
-    return kind <= TRAFFIC;
+    return kind <= TRAFFIC || kind == PDU;
 }
 
 int kind_has_buffer(enum kind kind)
 {
-    return kind == TRAFFIC || kind == BENCH || kind == PLAIN || kind == RECORD_WRITE || kind == SLOTLIST;
+    return kind == TRAFFIC || kind == BENCH || kind == PLAIN || kind == RECORD_WRITE || kind == SLOTLIST || kind == PDU;
 }
 
 unsigned said(const struct call *call, const struct outcome *outcome)

@@ -6,7 +6,7 @@
 #include "card.h"
 #include "card_plain.h"
 
-enum kind { LOAD, MOVE, CLEAR, READ, TRAFFIC, BENCH, RECORD_READ, RECORD_WRITE, PLAN, PLAIN, SLOTLIST, KINDS };
+enum kind { LOAD, MOVE, CLEAR, READ, TRAFFIC, BENCH, RECORD_READ, RECORD_WRITE, PLAN, PLAIN, SLOTLIST, PDU, KINDS };
 
 enum { MOST_BYTES = 17 * 4096, MOST_SLOTS = 96 };
 
@@ -27,7 +27,7 @@ struct call {
     uint16_t version;
     uint64_t algorithm, usage, side, place;
     uint64_t direction, start, length, skip;
-    uint64_t pdu_kind, state, flag, address, sdu; /* the PDU's length is `length` */
+    uint64_t pdu_kind, state, flag, address, sdu; /* a plan's or a PDU's, whose length is `length` */
     struct bytes key, iv, text, buffer;           /* the text is a record's or a sheet's */
 };
 
@@ -49,6 +49,10 @@ extern const char *const kind_names[KINDS];
 void bytes_copy(struct bytes *to, const struct bytes *from);
 void table_copy(struct table *to, const struct table *from);
 void call_copy(struct call *to, const struct call *from);
+
+/* Bit 0 of a byte is its most significant one. */
+int bit_at(const struct bytes *bytes, size_t place);
+void set_bit(struct bytes *bytes, size_t place, int bit);
 
 int bytes_same(const struct bytes *a, const struct bytes *b);
 int table_same(const struct table *a, const struct table *b);

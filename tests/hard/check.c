@@ -51,7 +51,8 @@ static void refused_changes_nothing(const struct call *call, const struct table 
     hold("a refused call gives a key", memcmp(given->key, zeros, CARD_KEY_BYTES) == 0);
 }
 
-static void traffic_twice(const struct call *call, const struct table *table, const struct outcome *given)
+/* Traffic, or a whole PDU. */
+static void twice_is_back(const struct call *call, const struct table *table, const struct outcome *given)
 {
     static struct call again;
     static struct outcome twice;
@@ -59,8 +60,40 @@ static void traffic_twice(const struct call *call, const struct table *table, co
     call_copy(&again, call);
     bytes_copy(&again.buffer, &given->buffer);
     answer(&card_face, &again, table, &twice);
-    hold("traffic twice doesn't bring the buffer back",
+    hold("the same call again doesn't bring the buffer back",
          twice.answer == CARD_DONE && bytes_same(&twice.buffer, &call->buffer));
+}
+
+/* A whole PDU is its plan's pieces by traffic, one after the other, each of which is done; its blocks are the different ones
+   among theirs. */
+static void pdu_as_traffic(const struct call *call, const struct table *table, const struct outcome *given)
+{
+    static struct call part;
+    static struct outcome planned, ciphered;
+    uint8_t used[CARD_KEYSTREAM_BITS / 256 + 1] = {0};
+    size_t blocks = 0;
+
+    call_copy(&part, call);
+    part.kind = PLAN;
+    part.flag = call->pdu_kind == CARD_DMAC_SYNC_SCH_H && call->length >= 12 ? (uint64_t)bit_at(&call->buffer, 11) : 0;
+    answer(&card_face, &part, table, &planned);
+    part.kind = TRAFFIC;
+    for (int i = 0; i < 6; i += 3) {
+        part.start = planned.numbers[i];
+        part.length = planned.numbers[i + 1];
+        part.skip = planned.numbers[i + 2];
+        if (part.length == 0)
+            continue;
+        answer(&card_face, &part, table, &ciphered);
+        hold("a piece of a PDU is refused by traffic", ciphered.answer == CARD_DONE);
+        bytes_copy(&part.buffer, &ciphered.buffer);
+        for (uint64_t bit = part.skip; bit < part.skip + part.length; bit++)
+            used[bit / 256] = 1;
+    }
+    for (size_t i = 0; i < sizeof used; i++)
+        blocks += used[i];
+    hold("a PDU isn't the traffic of its pieces", planned.answer == CARD_DONE && bytes_same(&part.buffer, &given->buffer));
+    hold("a PDU's blocks aren't the different ones of its pieces", given->numbers[0] == blocks);
 }
 
 /* What was read is written to a buffer of the text's length, whose bytes after the record stay. */
@@ -122,7 +155,7 @@ static void bench_as_traffic(const struct call *call, const struct outcome *give
     bytes_copy(&traffic.iv, &call->iv);
     bytes_copy(&traffic.buffer, &call->buffer);
     for (size_t i = 0; i < call->length; i++)
-        traffic.buffer.at[i / 8] &= (uint8_t)~(0x80 >> i % 8);
+        set_bit(&traffic.buffer, i, 0);
     answer(&card_face, &traffic, &table, &sent);
     hold("bench isn't traffic on zero bits",
          sent.answer == CARD_DONE && sent.numbers[0] == given->numbers[0] && bytes_same(&sent.buffer, &given->buffer));
@@ -156,12 +189,8 @@ static void plain_as_bench(const struct call *call, const struct outcome *given)
     bench.buffer.count = CARD_KEYSTREAM_BITS / 8;
     answer(&card_face, &bench, &given->table, &whole);
     bytes_copy(&expected, &call->buffer);
-    for (size_t i = 0; i < call->length; i++) {
-        size_t at = call->skip + i;
-        int bit = whole.buffer.at[at / 8] >> (7 - at % 8) & 1;
-
-        expected.at[i / 8] = (uint8_t)((expected.at[i / 8] & ~(0x80 >> i % 8)) | bit << (7 - i % 8));
-    }
+    for (size_t i = 0; i < call->length; i++)
+        set_bit(&expected, i, bit_at(&whole.buffer, call->skip + i));
     hold("the plain engine's bits aren't the bench's from the skip on",
          whole.answer == CARD_DONE && bytes_same(&expected, &given->buffer));
 }
@@ -170,10 +199,12 @@ static void hold_laws(const struct call *call, const struct table *before, const
 {
     if (call->kind == PLAIN)
         plain_without_skip(call, before);
+    if (call->kind == PDU && given->answer == CARD_DONE)
+        pdu_as_traffic(call, before, given);
     if (given->answer != CARD_DONE)
         refused_changes_nothing(call, before, given);
-    else if (call->kind == TRAFFIC)
-        traffic_twice(call, before, given);
+    else if (call->kind == TRAFFIC || call->kind == PDU)
+        twice_is_back(call, before, given);
     else if (call->kind == BENCH)
         bench_as_traffic(call, given);
     else if (call->kind == PLAIN)

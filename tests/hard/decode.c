@@ -6,12 +6,12 @@
 #include "text.h"
 
 /* Of the values of a list's byte, those from this one on are the owner's turn. */
-enum { WAYS = 128, OWNER = 116 };
+enum { OWNER = 232, OWNER_BYTE = 234, OWNER_TABLE = 238 };
 
 /* So many of the values below it are a kind's, beside its own number. */
 static const uint8_t shares[KINDS] = {
-    [LOAD] = 17, [MOVE] = 17,        [CLEAR] = 5,        [READ] = 9, [TRAFFIC] = 21, [BENCH] = 6,
-    [PLAIN] = 5, [RECORD_READ] = 17, [RECORD_WRITE] = 1, [PLAN] = 1, [SLOTLIST] = 6,
+    [LOAD] = 32,  [MOVE] = 32,        [CLEAR] = 10,       [READ] = 17, [TRAFFIC] = 39,  [BENCH] = 12,
+    [PLAIN] = 10, [RECORD_READ] = 32, [RECORD_WRITE] = 3, [PLAN] = 3,  [SLOTLIST] = 11, [PDU] = 19,
 };
 
 static enum kind kind_of(uint8_t way)
@@ -20,7 +20,7 @@ static enum kind kind_of(uint8_t way)
 
     if (way < KINDS)
         return (enum kind)way;
-    for (; kind < SLOTLIST && left >= shares[kind]; kind++)
+    for (; kind < KINDS - 1 && left >= shares[kind]; kind++)
         left -= shares[kind];
     return (enum kind)kind;
 }
@@ -59,10 +59,10 @@ static void owner_writes(struct source *source, struct table *table, uint8_t way
 {
     static const uint64_t likely[] = {0, 1, 16, 31, 33, 64};
 
-    if (way == OWNER)
+    if (way < OWNER_BYTE)
         table->slots = source_byte(source) % 2 == 1 ? choose_of(source, likely, sizeof likely / sizeof likely[0])
                                                     : source_byte(source) % (MOST_SLOTS + 1u);
-    else if (way <= OWNER + 2)
+    else if (way < OWNER_TABLE)
         change_byte(source, table);
     else
         decode_table(source, table);
@@ -96,10 +96,9 @@ static void decode_iv(struct source *source, const struct table *table, struct c
         call->iv.at[slot->place / 8] |= mask;
 }
 
-static void decode_traffic(struct source *source, const struct table *table, struct call *call)
+/* A slot, mostly a filled one, in a direction that its use mostly has, and an initial value. */
+static void decode_right(struct source *source, const struct table *table, struct call *call)
 {
-    size_t bytes = choose_buffer_count(source);
-
     call->number = choose_slot(source, table, 1);
     call->direction = choose_mostly(source, 1, 2);
     if (call->number >= 1 && call->number <= table->slots && source_byte(source) % 4 != 1) {
@@ -108,10 +107,31 @@ static void decode_traffic(struct source *source, const struct table *table, str
         call->direction = usage == CARD_SEND || usage == CARD_RECEIVE ? usage : call->direction;
     }
     decode_iv(source, table, call);
+}
+
+static void decode_traffic(struct source *source, const struct table *table, struct call *call)
+{
+    size_t bytes = choose_buffer_count(source);
+
+    decode_right(source, table, call);
     choose_bytes(source, &call->buffer, bytes);
     call->length = choose_length(source, bytes);
     call->start = choose_first_bit(source, call->length, 8 * bytes);
     call->skip = choose_first_bit(source, call->length, CARD_KEYSTREAM_BITS);
+}
+
+/* Mostly a PDU that its buffer holds. */
+static void decode_pdu(struct source *source, const struct table *table, struct call *call)
+{
+    size_t bytes = choose_buffer_count(source);
+
+    decode_right(source, table, call);
+    choose_bytes(source, &call->buffer, bytes);
+    call->pdu_kind = choose_mostly(source, 1, 3);
+    call->state = choose_mostly(source, 0, 3);
+    call->length = source_byte(source) % 8 == 1 ? choose_pdu_length(source) : choose_length(source, bytes);
+    call->sdu = choose_sdu(source, call->length);
+    call->address = choose_address(source, call->sdu);
 }
 
 static void decode_bench(struct source *source, struct call *call)
@@ -172,6 +192,7 @@ void decode_arguments(struct source *source, const struct table *table, struct c
     case CLEAR:
     case READ: call->number = choose_slot(source, table, 1); break;
     case TRAFFIC: decode_traffic(source, table, call); break;
+    case PDU: decode_pdu(source, table, call); break;
     case BENCH: decode_bench(source, call); break;
     case PLAIN: decode_plain(source, call); break;
     case RECORD_READ: text_record(source, &call->text); break;
@@ -183,11 +204,11 @@ void decode_arguments(struct source *source, const struct table *table, struct c
 
 int decode_call(struct source *source, struct table *table, struct call *call)
 {
-    uint8_t way = source_byte(source) % WAYS;
+    uint8_t way = source_byte(source);
 
     while (!source_dry(source) && way >= OWNER) {
         owner_writes(source, table, way);
-        way = source_byte(source) % WAYS;
+        way = source_byte(source);
     }
     if (source_dry(source))
         return 0;

@@ -22,7 +22,7 @@ static void begin(enum kind kind)
     memset(table.at[0].key, 0x3c, CARD_KEY_BYTES);
     memset(&call, 0, sizeof call);
     call = (struct call){.kind = kind, .number = 1, .to = 2, .asked = CARD_FOR_BOTH, .algorithm = CARD_TEA5,
-                         .usage = CARD_FOR_SENDING, .direction = CARD_SEND, .length = 9};
+                         .usage = CARD_FOR_SENDING, .direction = CARD_SEND, .length = 9, .pdu_kind = CARD_DMAC_DATA, .state = CARD_SDU};
     call.key.count = CARD_KEY_BYTES;
     call.iv.count = CARD_IV_BYTES;
     call.buffer.count = 2;
@@ -43,6 +43,9 @@ static void every_key_and_iv_length(void)
     for (call.iv.count = 0; call.iv.count <= 300; call.iv.count++)
         make();
     begin(TRAFFIC);
+    for (call.iv.count = 0; call.iv.count <= 300; call.iv.count++)
+        make();
+    begin(PDU);
     for (call.iv.count = 0; call.iv.count <= 300; call.iv.count++)
         make();
 }
@@ -111,7 +114,7 @@ static void every_wrap(void)
 
 static void every_number_of_slots(void)
 {
-    static const enum kind kinds[] = {LOAD, MOVE, CLEAR, READ, TRAFFIC};
+    static const enum kind kinds[] = {LOAD, MOVE, CLEAR, READ, TRAFFIC, PDU};
 
     for (size_t k = 0; k < sizeof kinds / sizeof kinds[0]; k++)
         for (size_t slots = 0; slots <= MOST_SLOTS; slots++) {
@@ -241,6 +244,29 @@ static void every_plan_code(void)
     }
 }
 
+/* PDUs of every kind and state, good and bad, with the flag's byte and all others set or not, in buffers that they fill, that
+   are longer, and that are too short by a byte. */
+static void every_pdu(void)
+{
+    static const uint64_t edges[] = {0, 1, 9, 10, 11, 12, 13, 17, 18, 19, 24, 36, 124, 256, 280, 300, 512, 8287, 8288, 8289};
+    static const uint64_t starts[] = {0, 1, 10, 11, 12, 24, 34, 35, 50, 124, 255, 256, 257, 280, 8288, UINT64_MAX - 23};
+    enum { EDGES = sizeof edges / sizeof edges[0], STARTS = sizeof starts / sizeof starts[0] };
+
+    begin(PDU);
+    for (int i = 0; i < EDGES * STARTS * STARTS * 25; i++) {
+        call.length = edges[i % EDGES];
+        call.address = starts[i / EDGES % STARTS];
+        call.sdu = starts[i / EDGES / STARTS % STARTS];
+        call.pdu_kind = (uint64_t)(i / EDGES / STARTS / STARTS % 5);
+        call.state = (uint64_t)(i / EDGES / STARTS / STARTS / 5);
+        if (call.length > 600 && call.sdu % 50 != 0)
+            continue; /* few of the long ones */
+        call.buffer.count = (call.length + 7) / 8 + (size_t)(i % 7 == 1) - (size_t)(i % 11 == 1 && call.length > 0);
+        memset(call.buffer.at, i % 2 == 0 ? 0 : 0xff, call.buffer.count);
+        make();
+    }
+}
+
 /* From every ninth bit of the keystream on, and from those at a block's edge, up to the bit behind the last. */
 static void every_plain_skip(void)
 {
@@ -271,6 +297,7 @@ unsigned long every_run(uint64_t seed)
     every_pair_of_uses();
     every_plan();
     every_plan_code();
+    every_pdu();
     every_plain_skip();
     return calls;
 }

@@ -74,6 +74,21 @@ static void traffic_buffer(const struct face *face, struct made *m)
     m->answer = face->traffic(m->table, 32, 1, 1, m->iv, 10, vast, CUT + 64, 0, 512, 0, m->numbers);
 }
 
+static void pdu_table(const struct face *face, struct made *m)
+{
+    m->answer = face->pdu((struct card_slot *)vast, CUT + 32, 1, 1, m->iv, 10, m->buffer, 64, 1, 3, 512, 10, 50, m->numbers);
+}
+
+static void pdu_iv(const struct face *face, struct made *m)
+{
+    m->answer = face->pdu(m->table, 32, 1, 1, vast, CUT + 10, m->buffer, 64, 1, 3, 512, 10, 50, m->numbers);
+}
+
+static void pdu_buffer(const struct face *face, struct made *m)
+{
+    m->answer = face->pdu(m->table, 32, 1, 1, m->iv, 10, vast, CUT + 64, 1, 3, 512, 10, 50, m->numbers);
+}
+
 static void load_table(const struct face *face, struct made *m)
 {
     m->answer = face->load((struct card_slot *)vast, CUT + 32, 2, 0, 5, 1, 0, 0, m->key);
@@ -135,6 +150,7 @@ unsigned long vast_run(void)
         bench_key,  bench_iv,   bench_buffer, traffic_table, traffic_iv,  traffic_buffer,
         load_table, move_table, clear_table,  read_table,    record_read, record_write,
         plain_key,  plain_iv,   plain_buffer, slotlist_sheet, slotlist_buffer,
+        pdu_table,  pdu_iv,     pdu_buffer,
     };
     enum { CALLS = sizeof calls / sizeof calls[0] };
     static struct made given, expected;

@@ -18,6 +18,7 @@ static size_t length, start, skip, blocks, used, line, column;
 static uint16_t version;
 static uint8_t algorithm, usage, side, place;
 static size_t text_bytes, sheet_bytes;
+static struct card_pdu_parts pdu;
 
 static void random_bytes(uint64_t *generator, uint8_t *bytes, size_t count)
 {
@@ -50,6 +51,11 @@ static uint8_t make_traffic(void)
 {
     return card_traffic(table, CARD_SLOTS, direction, number, iv, CARD_IV_BYTES, buffer, sizeof buffer, start, length,
                         skip, &blocks);
+}
+
+static uint8_t make_pdu(void)
+{
+    return card_cipher_pdu(table, CARD_SLOTS, direction, number, iv, CARD_IV_BYTES, buffer, sizeof buffer, pdu, &blocks);
 }
 
 static uint8_t make_bench(void)
@@ -117,6 +123,29 @@ static uint8_t traffic_of_no_bits(void)
                         &blocks);
 }
 
+/* Whose last test is of its parts. */
+static uint8_t pdu_of_no_parts(void)
+{
+    struct card_pdu_parts none = pdu;
+
+    none.sdu_bit = pdu.address_bit;
+    return card_cipher_pdu(table, CARD_SLOTS, direction, number, iv, CARD_IV_BYTES, buffer, sizeof buffer, none, &blocks);
+}
+
+static uint8_t pdu_past_the_buffer(void)
+{
+    return card_cipher_pdu(table, CARD_SLOTS, direction, number, iv, CARD_IV_BYTES, buffer, 1, pdu, &blocks);
+}
+
+/* With no piece: no key is needed. */
+static uint8_t clear_pdu(void)
+{
+    struct card_pdu_parts clear = pdu;
+
+    clear.state = CARD_ALL_CLEAR;
+    return card_cipher_pdu(table, CARD_SLOTS, direction, number, iv, CARD_IV_BYTES, buffer, sizeof buffer, clear, &blocks);
+}
+
 /* With a slot in the table that has a key and no fields. */
 static uint8_t traffic_beside_no_fields(void)
 {
@@ -159,6 +188,11 @@ static uint8_t rust_read(void)
 static uint8_t rust_traffic(void)
 {
     return bound_traffic(direction, number, iv, buffer, sizeof buffer, start, length, skip);
+}
+
+static uint8_t rust_pdu(void)
+{
+    return bound_pdu(direction, number, iv, buffer, sizeof buffer, &pdu);
 }
 
 static uint8_t rust_bench(void)
@@ -222,6 +256,10 @@ const struct keyed_call keyed_calls[KEYED_CALLS] = {
     {"  refused with 4", traffic_of_no_bits, CARD_LENGTH, &nothing},
     {"  with 16, key", traffic_beside_no_fields, CARD_TABLE, &nothing},
     {"  with 16, fields", traffic_beside_bad_fields, CARD_TABLE, &nothing},
+    {"card_pdu", make_pdu, CARD_DONE, &its_cipher},
+    {"  refused with 6", pdu_past_the_buffer, CARD_SPAN, &nothing},
+    {"  refused with 19", pdu_of_no_parts, CARD_PDU_PARTS, &nothing},
+    {"  with no piece", clear_pdu, CARD_DONE, &its_key},
     {"card_bench", make_bench, CARD_DONE, &its_cipher},
     {"  refused with 4", refused_bench, CARD_LENGTH, &nothing},
     {"card_plain", make_plain, CARD_DONE, &its_plain},
@@ -234,6 +272,7 @@ const struct keyed_call keyed_calls[KEYED_CALLS] = {
     {"Rust clear", rust_clear, CARD_DONE, &nothing},
     {"Rust read", rust_read, CARD_DONE, &nothing},
     {"Rust traffic", rust_traffic, CARD_DONE, &nothing},
+    {"Rust pdu", rust_pdu, CARD_DONE, &nothing},
     {"Rust bench", rust_bench, CARD_DONE, &nothing},
     {"Rust record_read", rust_record_read, CARD_DONE, &nothing},
     {"Rust record_write", rust_record_write, CARD_DONE, &nothing},
@@ -295,6 +334,16 @@ static void choose_secrets(void)
     secrets_add_blocks(KEYSTREAM, made.blocks[0], sizeof made.blocks);
 }
 
+/* From the span, so that the other calls have what they had without it. */
+static void choose_pdu(void)
+{
+    pdu.kind = CARD_DMAC_DATA;
+    pdu.state = CARD_ADDRESS_AND_SDU;
+    pdu.address_bit = start % 50;
+    pdu.sdu_bit = pdu.address_bit + 24 + skip % 50;
+    pdu.length_bits = length > pdu.sdu_bit && length < CARD_KEYSTREAM_BITS ? length : pdu.sdu_bit + 74;
+}
+
 void calls_choose(uint64_t *generator)
 {
     secrets_begin();
@@ -305,6 +354,7 @@ void calls_choose(uint64_t *generator)
     length = 1 + generator_next(generator) % CARD_KEYSTREAM_BITS;
     skip = generator_next(generator) % (CARD_KEYSTREAM_BITS - length + 1);
     start = generator_next(generator) % (8 * sizeof buffer - length + 1);
+    choose_pdu();
     choose_table(generator);
     choose_text();
     choose_secrets();

@@ -18,11 +18,11 @@ struct keyed_call {
     const struct bar *bar;
 };
 
-enum { KEYED_CALLS = 29 };
+enum { KEYED_CALLS = 34 };
 
 extern const struct keyed_call keyed_calls[KEYED_CALLS];
 
-/* Chooses keys, initial value, algorithm and span anew, and what is looked for with them. */
+/* Chooses keys, initial value, algorithm, span and PDU anew, and what is looked for with them. */
 void calls_choose(uint64_t *generator);
 
 /* Makes table, buffer and text as they were chosen. Before each call. */

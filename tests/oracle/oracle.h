@@ -11,6 +11,7 @@ extern __typeof__(card_move) oracle_move;
 extern __typeof__(card_clear) oracle_clear;
 extern __typeof__(card_read) oracle_read;
 extern __typeof__(card_traffic) oracle_traffic;
+extern __typeof__(card_pdu) oracle_pdu;
 extern __typeof__(card_bench) oracle_bench;
 extern __typeof__(card_plain) oracle_plain;
 extern __typeof__(card_record_read) oracle_record_read;

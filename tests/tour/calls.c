@@ -12,6 +12,7 @@ int main(void) {
     const uint8_t iv[CARD_IV_BYTES] = {0};
     uint8_t listing[CARD_LISTING_BYTES];
     size_t used, line, column, length, pieces[6], blocks;
+    struct card_pdu_parts parts;
 
     printf("record read: %d\n", card_record_read((const uint8_t *)record, strlen(record), shown, key, &used, &line,
                                                  &column));
@@ -25,7 +26,14 @@ int main(void) {
     length = card_slotlist((const uint8_t *)record, strlen(record), listing, sizeof listing);
     printf("%.*s", (int)length, (const char *)listing);
 
-    printf("plan: %d\n", card_plan(1, 3, 0, 124, 10, 50, pieces));
+    printf("plan: %d\n", card_plan(CARD_DMAC_DATA, CARD_ADDRESS_AND_SDU, 0, 124, 10, 50, pieces));
+    for (int i = 0; i < 6; i++) printf("%d%s", (int)pieces[i], i < 5 ? " " : "\n");
+
+    parts.kind = CARD_DMAC_SYNC_SCH_H;
+    parts.state = CARD_AFTER_HEAD;
+    parts.length_bits = 124;
+    parts.address_bit = parts.sdu_bit = 0;
+    printf("plan by its parts: %d\n", card_plan_pdu(parts, 1, pieces));
     for (int i = 0; i < 6; i++) printf("%d%s", (int)pieces[i], i < 5 ? " " : "\n");
 
     printf("bench: %d", card_bench(CARD_TEA6, key, sizeof key, iv, sizeof iv, keystream, sizeof keystream, 320, &blocks));

@@ -38,7 +38,7 @@ pub enum Direction {
     Receive = 2,
 }
 
-/// Which direct mode PDU a plan is for.
+/// Which direct mode PDU it is.
 #[derive(Clone, Copy, Debug, PartialEq, Eq, Hash)]
 pub enum PduKind {
     /// DMAC-DATA.
@@ -47,6 +47,19 @@ pub enum PduKind {
     DmacSyncSchH = 2,
     /// DMAC-SYNC on SCH/S.
     DmacSyncSchS = 3,
+}
+
+/// A direct mode PDU's encryption state: what of it is ciphered. A DMAC-SYNC on SCH/S is clear in every state.
+#[derive(Clone, Copy, Debug, PartialEq, Eq, Hash)]
+pub enum PduState {
+    /// Nothing.
+    AllClear = 0,
+    /// What follows the head: 10 bits of a DMAC-DATA, 12 of a DMAC-SYNC, 18 if its fragmentation flag is 1.
+    AfterHead = 1,
+    /// The DM-SDU.
+    Sdu = 2,
+    /// The address and the DM-SDU.
+    AddressAndSdu = 3,
 }
 
 /// A code of the kind `T`, or any number in its place.
@@ -145,6 +158,12 @@ impl From<PduKind> for u64 {
     }
 }
 
+impl From<PduState> for u64 {
+    fn from(state: PduState) -> u64 {
+        state as u64
+    }
+}
+
 /// Refused: 1.
 impl TryFrom<u64> for Algorithm {
     type Error = Refusal;
@@ -195,6 +214,21 @@ impl TryFrom<u64> for PduKind {
             1 => Ok(PduKind::DmacData),
             2 => Ok(PduKind::DmacSyncSchH),
             3 => Ok(PduKind::DmacSyncSchS),
+            _ => Err(Refusal::PduCode),
+        }
+    }
+}
+
+/// Refused: 18, as a plan refuses an unknown state before anything else.
+impl TryFrom<u64> for PduState {
+    type Error = Refusal;
+
+    fn try_from(number: u64) -> Result<PduState, Refusal> {
+        match number {
+            0 => Ok(PduState::AllClear),
+            1 => Ok(PduState::AfterHead),
+            2 => Ok(PduState::Sdu),
+            3 => Ok(PduState::AddressAndSdu),
             _ => Err(Refusal::PduCode),
         }
     }

@@ -50,9 +50,26 @@ extern "C" {
         iv_bytes: usize,
         buffer: *mut u8,
         buffer_bytes: usize,
-        start: usize,
-        length: usize,
-        skip: usize,
+        start_bit: usize,
+        length_bits: usize,
+        skip_bits: usize,
+        blocks: *mut usize,
+    ) -> u8;
+
+    fn card_pdu(
+        table: *const Slot,
+        slots: usize,
+        direction: u64,
+        number: u64,
+        iv: *const u8,
+        iv_bytes: usize,
+        buffer: *mut u8,
+        buffer_bytes: usize,
+        kind: u64,
+        state: u64,
+        length_bits: usize,
+        address_bit: usize,
+        sdu_bit: usize,
         blocks: *mut usize,
     ) -> u8;
 
@@ -64,7 +81,7 @@ extern "C" {
         iv_bytes: usize,
         buffer: *mut u8,
         buffer_bytes: usize,
-        length: usize,
+        length_bits: usize,
         blocks: *mut usize,
     ) -> u8;
 
@@ -116,9 +133,9 @@ extern "C" {
         kind: u64,
         state: u64,
         flag: u64,
-        length: usize,
-        address: usize,
-        sdu: usize,
+        length_bits: usize,
+        address_bit: usize,
+        sdu_bit: usize,
         pieces: *mut usize,
     ) -> u8;
 }
@@ -221,6 +238,38 @@ pub fn traffic(
             span.start,
             span.length,
             span.skip,
+            &mut blocks,
+        )
+    };
+    wipe::stack_below();
+    answered(answer, blocks)
+}
+
+pub fn pdu(
+    table: &[Slot],
+    direction: u64,
+    number: u64,
+    iv: &[u8],
+    buffer: &mut [u8],
+    pdu: &Pdu,
+) -> Result<usize, Refusal> {
+    let mut blocks = 0;
+    // Safety: each pointer is good for its length, and the library keeps none of them.
+    let answer = unsafe {
+        card_pdu(
+            table.as_ptr(),
+            table.len(),
+            direction,
+            number,
+            iv.as_ptr(),
+            iv.len(),
+            buffer.as_mut_ptr(),
+            buffer.len(),
+            pdu.kind.into(),
+            pdu.state.into(),
+            pdu.length_bits,
+            pdu.address_bit,
+            pdu.sdu_bit,
             &mut blocks,
         )
     };
@@ -360,17 +409,17 @@ pub fn slotlist(sheet: &[u8]) -> (usize, [u8; LISTING_BYTES]) {
 }
 
 /// Start, length and skip of the first piece and of the second.
-pub fn plan(pdu: &Pdu) -> Result<[usize; 6], Refusal> {
+pub fn plan(pdu: &Pdu, flag: bool) -> Result<[usize; 6], Refusal> {
     let mut pieces = [0; 6];
     // Safety: the pointer is good for six numbers, and the library doesn't keep it.
     let answer = unsafe {
         card_plan(
             pdu.kind.into(),
-            pdu.state,
-            pdu.flag.into(),
-            pdu.length,
-            pdu.address,
-            pdu.sdu,
+            pdu.state.into(),
+            flag.into(),
+            pdu.length_bits,
+            pdu.address_bit,
+            pdu.sdu_bit,
             pieces.as_mut_ptr(),
         )
     };
@@ -391,7 +440,7 @@ mod tests {
     use super::*;
     use crate::key::KeyBytes;
     use crate::table::Slots;
-    use crate::SLOTS;
+    use crate::{PduKind, PduState, SLOTS};
 
     const FILLED: Slot = Slot {
         version: 17,
@@ -450,6 +499,13 @@ mod tests {
             length: 8,
             skip: 0,
         };
+        let whole = Pdu {
+            kind: PduKind::DmacData,
+            state: PduState::Sdu,
+            length_bits: 8,
+            address_bit: 0,
+            sdu_bit: 0,
+        };
         for slots in [0, 31, 33] {
             let mut table = vec![FILLED; slots];
             let mut buffer = [7];
@@ -459,6 +515,8 @@ mod tests {
             assert_eq!(clear(&mut table, 1), refused);
             assert_eq!(read(&table, 1), Err(Refusal::Table));
             let ciphered = traffic(&table, 1, 1, &[0; 10], &mut buffer, span);
+            assert_eq!(ciphered, Err(Refusal::Table));
+            let ciphered = pdu(&table, 1, 1, &[0; 10], &mut buffer, &whole);
             assert_eq!(ciphered, Err(Refusal::Table));
             assert_eq!(buffer, [7]);
             assert!(table

@@ -19,7 +19,7 @@ mod table;
 mod wipe;
 
 pub use bench::bench;
-pub use code::{Algorithm, Code, Direction, PduKind, Use, KEEP};
+pub use code::{Algorithm, Code, Direction, PduKind, PduState, Use, KEEP};
 pub use fields::{Asked, Fields};
 pub use key::Key;
 #[cfg(feature = "plain")]

@@ -2,7 +2,7 @@
 
 use std::fmt;
 
-use crate::{ffi, Asked, Code, Direction, Fields, Refusal, Span, Use, KEY_BYTES, SLOTS};
+use crate::{ffi, Asked, Code, Direction, Fields, Pdu, Refusal, Span, Use, KEY_BYTES, SLOTS};
 
 /// A slot as it lies in memory, `struct card_slot` of include/card.h. All zeros: empty.
 ///
@@ -133,6 +133,43 @@ impl Table {
     ) -> Result<usize, Refusal> {
         let direction = direction.into().number();
         ffi::traffic(&self.slots.0, direction, number, iv, buffer, span)
+    }
+
+    /// Ciphers a whole PDU, which stands in the buffer from bit 0 on, with the key of a slot: every piece of its
+    /// [`plan`](crate::plan), or no bit. The fragmentation flag is read from the PDU. It gives the number of different
+    /// keystream blocks that are used, 0 where there is no piece. The same call again brings the PDU back.
+    ///
+    /// Refused: 10, 7, 8, 12, 3, 13, 5, 6, 18, 19.
+    ///
+    /// ```
+    /// use card::{Algorithm, Direction, Fields, Pdu, PduKind, PduState, Table, Use};
+    ///
+    /// let fields = Fields { version: 0, algorithm: Algorithm::Tea7, usage: Use::Send, side: 0, place: 0 };
+    /// let mut table = Table::new();
+    /// table.load(1, fields, &[7; 24])?;
+    /// let pdu = Pdu {
+    ///     kind: PduKind::DmacData,
+    ///     state: PduState::AddressAndSdu,
+    ///     length_bits: 124,
+    ///     address_bit: 10,
+    ///     sdu_bit: 50,
+    /// };
+    /// let mut buffer = [0; 16];
+    /// assert_eq!(table.pdu(Direction::Send, 1, &[0; 10], &mut buffer, &pdu)?, 1);
+    /// assert_eq!(table.pdu(Direction::Send, 1, &[0; 10], &mut buffer, &pdu)?, 1);
+    /// assert_eq!(buffer, [0; 16]);
+    /// # Ok::<(), card::Refusal>(())
+    /// ```
+    pub fn pdu(
+        &self,
+        direction: impl Into<Code<Direction>>,
+        number: u64,
+        iv: &[u8],
+        buffer: &mut [u8],
+        pdu: &Pdu,
+    ) -> Result<usize, Refusal> {
+        let direction = direction.into().number();
+        ffi::pdu(&self.slots.0, direction, number, iv, buffer, pdu)
     }
 }
 

@@ -1,6 +1,9 @@
 //! Which bits of a PDU are ciphered, as the second program says.
 
-use card::{plan, Algorithm, Direction, Fields, Pdu, PduKind, Refusal, Span, Table, Use};
+mod common;
+
+use card::{plan, Algorithm, Direction, Pdu, PduKind, PduState, Refusal, Span, Use};
+use common::{second_pdu, second_table, table, IV};
 
 fn span((start, length, skip): (usize, usize, usize)) -> Option<Span> {
     Some(Span {
@@ -10,51 +13,38 @@ fn span((start, length, skip): (usize, usize, usize)) -> Option<Span> {
     })
 }
 
+fn pdu(length_bits: usize, address_bit: usize, sdu_bit: usize) -> Pdu {
+    Pdu {
+        kind: PduKind::DmacData,
+        state: PduState::AddressAndSdu,
+        length_bits,
+        address_bit,
+        sdu_bit,
+    }
+}
+
 #[test]
 fn state_3_has_the_pieces_of_request_3() {
-    let pdu = Pdu {
-        kind: PduKind::DmacData,
-        state: 3,
-        flag: false,
-        length: 124,
-        address: 10,
-        sdu: 50,
+    let example = pdu(124, 10, 50);
+    let both = [span((10, 24, 0)), span((50, 74, 41))];
+    assert_eq!(plan(&example, false), Ok(both));
+    let address = [span((10, 24, 0)), None];
+    assert_eq!(plan(&pdu(124, 10, 124), false), Ok(address));
+    let clear = Pdu {
+        state: PduState::AllClear,
+        ..example
     };
-    assert_eq!(plan(&pdu), Ok([span((10, 24, 0)), span((50, 74, 41))]));
-    assert_eq!(
-        plan(&Pdu { sdu: 124, ..pdu }),
-        Ok([span((10, 24, 0)), None])
-    );
-    assert_eq!(plan(&Pdu { state: 0, ..pdu }), Ok([None, None]));
+    assert_eq!(plan(&clear, false), Ok([None, None]));
 }
 
 /// The DM-SDU of the longest PDU can need one keystream bit more than there are.
 #[test]
 fn state_3_does_not_reach_past_the_keystream() {
-    let longest = Pdu {
-        kind: PduKind::DmacData,
-        state: 3,
-        flag: false,
-        length: 8288,
-        address: 0,
-        sdu: 24,
-    };
-    assert_eq!(plan(&longest), Err(Refusal::PduParts));
-    assert_eq!(
-        plan(&Pdu {
-            sdu: 8288,
-            ..longest
-        }),
-        Ok([span((0, 24, 0)), None])
-    );
-    assert_eq!(
-        plan(&Pdu {
-            address: 1,
-            sdu: 25,
-            ..longest
-        }),
-        Ok([span((1, 24, 0)), span((25, 8263, 25))])
-    );
+    let reached = |pdu| plan(&pdu, false);
+    assert_eq!(reached(pdu(8288, 0, 24)), Err(Refusal::PduParts));
+    assert_eq!(reached(pdu(8288, 0, 8288)), Ok([span((0, 24, 0)), None]));
+    let both = [span((1, 24, 0)), span((25, 8263, 25))];
+    assert_eq!(reached(pdu(8288, 1, 25)), Ok(both));
 }
 
 /// Lengths and places at the edges.
@@ -76,6 +66,13 @@ const PLACES: [usize; 15] = [
     usize::MAX,
 ];
 
+const STATES: [PduState; 4] = [
+    PduState::AllClear,
+    PduState::AfterHead,
+    PduState::Sdu,
+    PduState::AddressAndSdu,
+];
+
 #[test]
 fn plans_are_the_second_programs() {
     let kinds = [
@@ -84,19 +81,19 @@ fn plans_are_the_second_programs() {
         PduKind::DmacSyncSchS,
     ];
     for kind in kinds {
-        for state in [0, 1, 2, 3, 4, u64::MAX] {
+        for state in STATES {
             for flag in [false, true] {
-                for length in PLACES {
-                    for address in PLACES {
-                        for sdu in PLACES {
-                            same(&Pdu {
+                for length_bits in PLACES {
+                    for address_bit in PLACES {
+                        for sdu_bit in PLACES {
+                            let pdu = Pdu {
                                 kind,
                                 state,
-                                flag,
-                                length,
-                                address,
-                                sdu,
-                            });
+                                length_bits,
+                                address_bit,
+                                sdu_bit,
+                            };
+                            same(&pdu, flag);
                         }
                     }
                 }
@@ -105,16 +102,16 @@ fn plans_are_the_second_programs() {
     }
 }
 
-fn same(pdu: &Pdu) {
+fn same(pdu: &Pdu, flag: bool) {
     let second = second::plan::plan(&second::plan::Pdu {
         kind: pdu.kind.into(),
-        state: pdu.state,
-        flag: pdu.flag.into(),
-        length: pdu.length as u64,
-        address: pdu.address as u64,
-        sdu: pdu.sdu as u64,
+        state: pdu.state.into(),
+        flag: flag.into(),
+        length: pdu.length_bits as u64,
+        address: pdu.address_bit as u64,
+        sdu: pdu.sdu_bit as u64,
     });
-    match plan(pdu) {
+    match plan(pdu, flag) {
         Err(refusal) => assert_eq!(u64::from(refusal.number()), second.refusal, "{pdu:?}"),
         Ok(pieces) => {
             assert_eq!(second.refusal, 0, "{pdu:?}");
@@ -132,39 +129,34 @@ fn same(pdu: &Pdu) {
     }
 }
 
+/// Each state, with the flag set and not: the pieces one after the other by traffic, and the whole by one call, which
+/// again brings the PDU back.
 #[test]
-fn a_plan_is_carried_out_by_traffic() {
-    let fields = Fields {
-        version: 0,
-        algorithm: Algorithm::Tea7,
-        usage: Use::Both,
-        side: 0,
-        place: 0,
-    };
-    let mut table = Table::new();
-    table.load(1, fields, &[5; 24]).unwrap();
-    let pdu = Pdu {
-        kind: PduKind::DmacSyncSchH,
-        state: 3,
-        flag: true,
-        length: 124,
-        address: 10,
-        sdu: 50,
-    };
-    let mut buffer = [0; 16];
-    for piece in plan(&pdu).unwrap().into_iter().flatten() {
-        table
-            .traffic(Direction::Send, 1, &[0; 10], &mut buffer, piece)
-            .unwrap();
+fn a_plan_is_carried_out_by_traffic_and_at_once() {
+    let card = table(Algorithm::Tea7, Use::Both);
+    let second_card = second_table(Algorithm::Tea7, Use::Both);
+    for state in STATES {
+        for flag in [false, true] {
+            let pdu = Pdu {
+                kind: PduKind::DmacSyncSchH,
+                state,
+                ..pdu(124, 10, 50)
+            };
+            let mut before = [0x96; 17];
+            before[1] = if flag { 0x10 } else { 0xef };
+            let (mut whole, mut pieces, mut expected) = (before, before, before);
+            let blocks = card.pdu(Direction::Send, 3, &IV, &mut whole, &pdu);
+            let second = second_pdu(&pdu);
+            let second = second::pdu::pdu(&second_card, 1, 3, &IV, &mut expected, &second);
+            assert_eq!(blocks, Ok(second.blocks as usize));
+            assert_eq!(whole, expected);
+            for piece in plan(&pdu, flag).unwrap().into_iter().flatten() {
+                card.traffic(Direction::Send, 3, &IV, &mut pieces, piece)
+                    .unwrap();
+            }
+            assert_eq!(whole, pieces);
+            card.pdu(Direction::Send, 3, &IV, &mut whole, &pdu).unwrap();
+            assert_eq!(whole, before);
+        }
     }
-
-    let mut expected = [0; 16];
-    let mut keystream = [0; 16];
-    second::card::bench(7, &[5; 24], &[0; 10], &mut keystream, 124);
-    let bit = |bytes: &[u8], place: usize| bytes[place / 8] >> (7 - place % 8) & 1;
-    let skips = (10..34).zip(0..).chain((50..124).zip(41..));
-    for (place, skip) in skips {
-        expected[place / 8] |= bit(&keystream, skip) << (7 - place % 8);
-    }
-    assert_eq!(buffer, expected);
 }

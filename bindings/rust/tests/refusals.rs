@@ -6,10 +6,12 @@ use std::collections::BTreeSet;
 use std::fmt::Debug;
 
 use card::{
-    bench, plan, record_read, record_write, Algorithm, Asked, Direction, Pdu, PduKind, Refusal,
-    Slot, Span, Table, Use, KEEP, SLOTS,
+    bench, plan, record_read, record_write, Algorithm, Asked, Direction, Pdu, PduKind, PduState,
+    Refusal, Slot, Span, Table, Use, KEEP, SLOTS,
 };
-use common::{bytes, second_fields, second_span, second_table, shown, table, IV, KEY, WHOLE_BYTE};
+use common::{
+    bytes, second_fields, second_pdu, second_span, second_table, shown, table, IV, KEY, WHOLE_BYTE,
+};
 
 const GOOD: Asked = asked(5, 3, 0, 28);
 
@@ -231,51 +233,72 @@ fn records(reached: &mut Reached) {
     write(17, 1, GOOD, 0);
 }
 
+const GOOD_PDU: Pdu = Pdu {
+    kind: PduKind::DmacData,
+    state: PduState::AddressAndSdu,
+    length_bits: 124,
+    address_bit: 10,
+    sdu_bit: 50,
+};
+
+fn pdu(length_bits: usize, address_bit: usize, sdu_bit: usize) -> Pdu {
+    Pdu {
+        length_bits,
+        address_bit,
+        sdu_bit,
+        ..GOOD_PDU
+    }
+}
+
 fn plans(reached: &mut Reached) {
-    let good = Pdu {
-        kind: PduKind::DmacData,
-        state: 3,
-        flag: false,
-        length: 124,
-        address: 10,
-        sdu: 50,
-    };
     let mut case = |number, pdu: Pdu| {
         let second = second::plan::plan(&second::plan::Pdu {
             kind: pdu.kind.into(),
-            state: pdu.state,
-            flag: pdu.flag.into(),
-            length: pdu.length as u64,
-            address: pdu.address as u64,
-            sdu: pdu.sdu as u64,
+            state: pdu.state.into(),
+            flag: 0,
+            length: pdu.length_bits as u64,
+            address: pdu.address_bit as u64,
+            sdu: pdu.sdu_bit as u64,
         });
-        reached.refused(number, plan(&pdu), second.refusal);
+        reached.refused(number, plan(&pdu, false), second.refusal);
     };
-    case(18, Pdu { state: 4, ..good });
-    case(
-        18,
-        Pdu {
-            length: 8289,
-            ..good
-        },
-    );
-    case(19, Pdu { sdu: 33, ..good });
-    case(19, Pdu { sdu: 125, ..good });
-    case(
-        19,
-        Pdu {
-            length: 8288,
-            address: 0,
-            ..good
-        },
-    );
-    case(
-        19,
-        Pdu {
-            address: usize::MAX,
-            ..good
-        },
-    );
+    case(18, pdu(8289, 10, 50));
+    case(19, pdu(124, 10, 33));
+    case(19, pdu(124, 10, 125));
+    case(19, pdu(8288, 0, 50));
+    case(19, pdu(124, usize::MAX, 50));
+}
+
+/// A PDU in a buffer of so many bytes, with the key for sending.
+fn pdus(reached: &mut Reached) {
+    let card = table(Algorithm::Tea5, Use::Send);
+    let second_card = second_table(Algorithm::Tea5, Use::Send);
+    let mut case = |number, direction: u64, slot, iv: &[u8], count, pdu: Pdu| {
+        let before = bytes(count);
+        let (mut buffer, mut second_buffer) = (before.clone(), before.clone());
+        let second = second::pdu::pdu(
+            &second_card,
+            direction,
+            slot,
+            iv,
+            &mut second_buffer,
+            &second_pdu(&pdu),
+        );
+        let answer = card.pdu(direction, slot, iv, &mut buffer, &pdu);
+        reached.refused(number, answer, second.refusal);
+        assert_eq!(buffer, before);
+    };
+    case(10, 3, 3, &IV, 16, GOOD_PDU);
+    case(7, 1, 33, &IV, 16, GOOD_PDU);
+    case(8, 1, 4, &IV, 16, GOOD_PDU);
+    case(12, 2, 3, &IV, 16, GOOD_PDU);
+    case(3, 1, 3, &IV[..9], 16, GOOD_PDU);
+    case(13, 1, 3, &[0xff; 10], 16, GOOD_PDU);
+    case(5, 1, 3, &IV, 8193, GOOD_PDU);
+    case(6, 1, 3, &IV, 15, GOOD_PDU);
+    case(6, 1, 3, &IV, 16, pdu(8289, 10, 50));
+    case(18, 1, 3, &IV, 1037, pdu(8289, 10, 50));
+    case(19, 1, 3, &IV, 16, pdu(124, 10, 33));
 }
 
 #[test]
@@ -287,6 +310,7 @@ fn every_refusal_is_reached_and_changes_nothing() {
     tables_from_c(&mut reached);
     records(&mut reached);
     plans(&mut reached);
+    pdus(&mut reached);
     assert_eq!(reached.0, (1..=19).collect());
 }
 
@@ -319,6 +343,10 @@ fn numbers_are_codes_or_the_cards_refusal() {
         }
         match PduKind::try_from(number) {
             Ok(kind) => assert_eq!(u64::from(kind), number),
+            Err(refusal) => assert_eq!(refusal, Refusal::PduCode),
+        }
+        match PduState::try_from(number) {
+            Ok(state) => assert_eq!(u64::from(state), number),
             Err(refusal) => assert_eq!(refusal, Refusal::PduCode),
         }
     }

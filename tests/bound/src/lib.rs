@@ -9,7 +9,7 @@ extern crate oracle;
 use std::slice::{from_raw_parts, from_raw_parts_mut};
 use std::sync::Mutex;
 
-use card::{Asked, Refusal, Slot, Span, Table, IV_BYTES, KEY_BYTES, SLOTS};
+use card::{Asked, Pdu, PduKind, PduState, Refusal, Slot, Span, Table, IV_BYTES, KEY_BYTES, SLOTS};
 
 static TABLE: Mutex<Option<Table>> = Mutex::new(None);
 
@@ -94,6 +94,44 @@ pub unsafe extern "C" fn bound_traffic(
         skip,
     };
     on_table(|table| table.traffic(direction, number, iv, buffer, span))
+}
+
+/// `struct card_pdu_parts` of include/card.h.
+#[repr(C)]
+pub struct Parts {
+    kind: u32,
+    state: u32,
+    length_bits: usize,
+    address_bit: usize,
+    sdu_bit: usize,
+}
+
+/// # Safety
+/// As for the crate.
+#[no_mangle]
+pub unsafe extern "C" fn bound_pdu(
+    direction: u64,
+    number: u64,
+    iv: &[u8; IV_BYTES],
+    buffer: *mut u8,
+    buffer_bytes: usize,
+    parts: &Parts,
+) -> u8 {
+    let buffer = from_raw_parts_mut(buffer, buffer_bytes);
+    let named = PduKind::try_from(u64::from(parts.kind))
+        .and_then(|kind| Ok((kind, PduState::try_from(u64::from(parts.state))?)));
+    let (kind, state) = match named {
+        Ok(named) => named,
+        Err(refusal) => return refusal.number(),
+    };
+    let pdu = Pdu {
+        kind,
+        state,
+        length_bits: parts.length_bits,
+        address_bit: parts.address_bit,
+        sdu_bit: parts.sdu_bit,
+    };
+    on_table(|table| table.pdu(direction, number, iv, buffer, &pdu))
 }
 
 /// # Safety

@@ -20,6 +20,7 @@ extern __typeof__(card_move) REAL(move), WRAP(move);
 extern __typeof__(card_clear) REAL(clear), WRAP(clear);
 extern __typeof__(card_read) REAL(read), WRAP(read);
 extern __typeof__(card_traffic) REAL(traffic), WRAP(traffic);
+extern __typeof__(card_pdu) REAL(pdu), WRAP(pdu);
 extern __typeof__(card_bench) REAL(bench), WRAP(bench);
 extern __typeof__(card_record_read) REAL(record_read), WRAP(record_read);
 extern __typeof__(card_record_write) REAL(record_write), WRAP(record_write);
@@ -63,7 +64,13 @@ enum {
     LISTS_WITHOUT_ROOM,
     MISREADS_ODD_TABLE,
     NUMBER_AFTER_BLOCKS,
-    COLUMN_ONE_MORE
+    COLUMN_ONE_MORE,
+    PDU_BIT_BETWEEN,
+    PDU_HALF_CIPHERED,
+    PDU_FLAG_OF_BIT_11,
+    PDU_BLOCKS_ADDED,
+    PDU_SAME_SKIP,
+    PDU_PARTS_FIRST
 };
 
 #define IS(fault) (BREAK == (fault))
@@ -163,6 +170,49 @@ uint8_t WRAP(traffic)(const struct card_slot *table, size_t slots, uint64_t dire
     return IS(OTHER_REFUSAL) && answer == CARD_SPAN ? CARD_LENGTH : answer;
 }
 
+/* What wrong PDU calls do, by traffic and plan. */
+static uint8_t spoiled_pdu(const struct card_slot *table, uint64_t direction, uint64_t number, const uint8_t *iv,
+                           uint8_t *buffer, size_t bytes, uint8_t answer, const size_t pieces[6], size_t *blocks)
+{
+    size_t some;
+
+    if (IS(PDU_HALF_CIPHERED) && answer == CARD_PDU_PARTS && bytes > 3)
+        REAL(traffic)(table, CARD_SLOTS, direction, number, iv, CARD_IV_BYTES, buffer, bytes, 0, 24, 0, &some);
+    if (answer != CARD_DONE || pieces[4] == 0)
+        return answer;
+    if (IS(PDU_BIT_BETWEEN) && pieces[3] > pieces[0] + pieces[1])
+        buffer[(pieces[3] - 1) / 8] ^= (uint8_t)(0x80 >> (pieces[3] - 1) % 8);
+    if (IS(PDU_BLOCKS_ADDED) && pieces[5] < 256)
+        ++*blocks;
+    if (IS(PDU_SAME_SKIP) && pieces[4] < 24) /* taken back, and ciphered again from the first piece's bits */
+        for (int i = 0; i < 2; i++)
+            REAL(traffic)(table, CARD_SLOTS, direction, number, iv, CARD_IV_BYTES, buffer, bytes, pieces[3], pieces[4],
+                          i == 0 ? pieces[5] : 0, &some);
+    return answer;
+}
+
+uint8_t WRAP(pdu)(const struct card_slot *table, size_t slots, uint64_t direction, uint64_t number, const uint8_t *iv,
+                  size_t iv_bytes, uint8_t *buffer, size_t bytes, uint64_t kind, uint64_t state, size_t length_bits,
+                  size_t address_bit, size_t sdu_bit, size_t *blocks)
+{
+    size_t pieces[6] = {0};
+    uint8_t answer, moved = 0;
+
+    if (IS(PDU_FLAG_OF_BIT_11) && kind == CARD_DMAC_SYNC_SCH_H && state == CARD_AFTER_HEAD && length_bits > 18 && bytes > 2)
+        moved = (buffer[1] ^ buffer[1] >> 1) & 0x10;
+    if (moved)
+        buffer[1] ^= moved;
+    answer = REAL(pdu)(table, slots, direction, number, iv, iv_bytes, buffer, bytes, kind, state, length_bits, address_bit,
+                       sdu_bit, blocks);
+    if (moved)
+        buffer[1] ^= moved;
+    if (IS(PDU_PARTS_FIRST) && answer == CARD_SPAN && length_bits <= CARD_KEYSTREAM_BITS && state == CARD_SDU &&
+        sdu_bit > length_bits)
+        return CARD_PDU_PARTS;
+    REAL(plan)(kind, state, 0, length_bits, address_bit, sdu_bit, pieces);
+    return spoiled_pdu(table, direction, number, iv, buffer, bytes, answer, pieces, blocks);
+}
+
 uint8_t WRAP(bench)(uint64_t algorithm, const uint8_t *key, size_t key_bytes, const uint8_t *iv, size_t iv_bytes,
                     uint8_t *buffer, size_t bytes, size_t length, size_t *blocks)
 {
@@ -189,6 +239,8 @@ uint8_t WRAP(plain)(uint64_t algorithm, const uint8_t *key, size_t key_bytes, co
     answer = REAL(plain)(algorithm, key, key_bytes, iv, iv_bytes, buffer, bytes, length, skip, blocks);
     if (IS(PLAIN_STARTS_LATE) && answer == CARD_DONE && skip == 0)
         buffer[0] ^= 0x80;
+    if (IS(REFUSED_BENCH_WRITES) && answer == CARD_SPAN && bytes > 0)
+        buffer[0] ^= 1; /* as the bench, since their law would find it */
     return answer;
 }
 

@@ -3,6 +3,7 @@
 use std::slice::{from_raw_parts, from_raw_parts_mut};
 
 use second::card::{self, Span};
+use second::pdu::{self, WholePdu};
 use second::rijndael::Key;
 use second::slots::{self, Fields, Slot, SLOTS};
 
@@ -157,6 +158,40 @@ pub unsafe extern "C" fn oracle_traffic(
     let iv = from_raw_parts(iv, iv_bytes);
     let buffer = from_raw_parts_mut(buffer, buffer_bytes);
     let answer = card::traffic(&table, direction, number, iv, buffer, span);
+    *blocks = answer.blocks as usize;
+    answer.refusal as u8
+}
+
+/// # Safety
+/// As for the crate.
+#[no_mangle]
+pub unsafe extern "C" fn oracle_pdu(
+    table: *const LentSlot,
+    slots: usize,
+    direction: u64,
+    number: u64,
+    iv: *const u8,
+    iv_bytes: usize,
+    buffer: *mut u8,
+    buffer_bytes: usize,
+    kind: u64,
+    state: u64,
+    length_bits: usize,
+    address_bit: usize,
+    sdu_bit: usize,
+    blocks: *mut usize,
+) -> u8 {
+    let whole = WholePdu {
+        kind,
+        state,
+        length: length_bits as u64,
+        address: address_bit as u64,
+        sdu: sdu_bit as u64,
+    };
+    let table = taken(table, slots);
+    let iv = from_raw_parts(iv, iv_bytes);
+    let buffer = from_raw_parts_mut(buffer, buffer_bytes);
+    let answer = pdu::pdu(&table, direction, number, iv, buffer, &whole);
     *blocks = answer.blocks as usize;
     answer.refusal as u8
 }

@@ -85,7 +85,7 @@ pub struct Answer {
 }
 
 impl Answer {
-    fn new(blocks: Result<u64, Refusal>) -> Answer {
+    pub(crate) fn new(blocks: Result<u64, Refusal>) -> Answer {
         match blocks {
             Ok(blocks) => Answer {
                 refusal: DONE,
@@ -160,7 +160,12 @@ fn checked_traffic(
 }
 
 /// The setting of a slot that may be used this way; refusals 16, 10, 7, 8, 12, 3, 13.
-fn permitted(table: &[Slot], direction: u64, number: u64, iv: &[u8]) -> Result<Setting, Refusal> {
+pub(crate) fn permitted(
+    table: &[Slot],
+    direction: u64,
+    number: u64,
+    iv: &[u8],
+) -> Result<Setting, Refusal> {
     let present = table_fields(table)?;
     if direction != SEND && direction != RECEIVE {
         return Err(CODE_UNKNOWN);

@@ -58,7 +58,11 @@ impl BenchCall {
 }
 
 /// The refusal, after testing that a refused call reports no blocks and keeps the buffer.
-fn refused_leaves(answer: Answer, after: &[u8], before: &[u8]) -> Result<Refusal, String> {
+pub(super) fn refused_leaves(
+    answer: Answer,
+    after: &[u8],
+    before: &[u8],
+) -> Result<Refusal, String> {
     if answer.refusal != DONE {
         same("blocks of a refused call", answer.blocks, 0)?;
         same("buffer of a refused call", after, before)?;

@@ -3,6 +3,7 @@
 
 mod card;
 mod cipher;
+mod pdu;
 mod plan;
 mod records;
 mod slots;
@@ -24,6 +25,7 @@ pub fn checks() -> Vec<Check> {
         card::CHECKS,
         records::CHECKS,
         plan::CHECKS,
+        pdu::CHECKS,
     ]
     .concat()
 }
