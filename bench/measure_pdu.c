@@ -47,7 +47,10 @@ static uint8_t (*const subjects_calls[SUBJECTS])(struct traffic *, size_t *) = {
 static const struct {
     const char *name;
     double bar;
-} rows[SUBJECTS] = {[BY_PIECES] = {"two traffic calls of its pieces", 0.75}, [IN_ONE_RUN] = {"a traffic call of one block", 1.15}};
+} rows[SUBJECTS] = {
+    [BY_PIECES] = {"two traffic calls of its pieces", 0.75},
+    [IN_ONE_RUN] = {"a traffic call of one block", 1.15},
+};
 
 static double times[SUBJECTS][ROUNDS], ratios[SUBJECTS][ROUNDS];
 

@@ -37,7 +37,7 @@ enum card_answer {
     CARD_IV_SIZE = 3,        /* initial value not 10 bytes */
     CARD_LENGTH = 4,         /* length 0, or skip + length above 8,288 */
     CARD_BUFFER = 5,         /* buffer above 8,192 bytes */
-    CARD_SPAN = 6,           /* start + length above 8 times the buffer's bytes */
+    CARD_SPAN = 6,           /* start + length, or a PDU's length, above 8 times the buffer's bytes */
     CARD_SLOT_NUMBER = 7,    /* slot number not 1..32 */
     CARD_SLOT_EMPTY = 8,     /* slot empty */
     CARD_TARGET_FILLED = 9,  /* target slot filled */
@@ -128,8 +128,8 @@ uint8_t card_read(const struct card_slot *table, size_t slots, uint64_t number, 
                   uint8_t *algorithm, uint8_t *usage, uint8_t *side, uint8_t *place);
 
 /* Ciphers: bit start_bit + i of the buffer becomes itself xor keystream bit skip_bits + i, for each i below length_bits,
-   and every other bit stays. The same call again brings the buffer back. `blocks` becomes the number of keystream blocks, of 256
-   bits, in which a used bit lies. Start, length and skip may be any numbers: their sums never wrap.
+   and every other bit stays. The same call again brings the buffer back. `blocks` becomes the number of keystream blocks,
+   of 256 bits, in which a used bit lies. Start, length and skip may be any numbers: their sums never wrap.
    Refused: 16, 10, 7, 8, 12, 3, 13, 5, 4, 6. */
 uint8_t card_traffic(const struct card_slot *table, size_t slots, uint64_t direction, uint64_t number,
                      const uint8_t *iv, size_t iv_bytes, uint8_t *buffer, size_t buffer_bytes, size_t start_bit,

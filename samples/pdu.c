@@ -1,4 +1,4 @@
-/* A whole PDU in one call: of this DMAC-DATA the address, 24 bits from bit 10 on, and the DM-SDU, from bit 50 on, are ciphered. */
+/* A whole PDU in one call: of a DMAC-DATA the address, from bit 10 on, and the DM-SDU, from bit 50 on, are ciphered. */
 #include "card.h"
 #include "card_wipe.h"
 #include <stdio.h>

@@ -22,7 +22,8 @@ static void begin(enum kind kind)
     memset(table.at[0].key, 0x3c, CARD_KEY_BYTES);
     memset(&call, 0, sizeof call);
     call = (struct call){.kind = kind, .number = 1, .to = 2, .asked = CARD_FOR_BOTH, .algorithm = CARD_TEA5,
-                         .usage = CARD_FOR_SENDING, .direction = CARD_SEND, .length = 9, .pdu_kind = CARD_DMAC_DATA, .state = CARD_SDU};
+                         .usage = CARD_FOR_SENDING, .direction = CARD_SEND, .length = 9,
+                         .pdu_kind = CARD_DMAC_DATA, .state = CARD_SDU};
     call.key.count = CARD_KEY_BYTES;
     call.iv.count = CARD_IV_BYTES;
     call.buffer.count = 2;

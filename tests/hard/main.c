@@ -14,7 +14,8 @@ enum { ANSWERS = 20, CALLS_OF_A_LIST = 40 };
 /* How often each answer came, by kind of call. */
 static unsigned long tally[KINDS][ANSWERS], lines[8];
 
-/* The answers that card.h lists for each kind; of a listing, what it says. Each must come, or the run has shown too little. */
+/* The answers that card.h lists for each kind; of a listing, what it says. Each must come, or the run has shown too
+   little. */
 static const char listed[KINDS][ANSWERS] = {
     [LOAD] = {[0] = 1, [16] = 1, [7] = 1, [1] = 1, [10] = 1, [11] = 1, [9] = 1},
     [MOVE] = {[0] = 1, [16] = 1, [7] = 1, [8] = 1, [9] = 1, [10] = 1, [14] = 1},
@@ -25,7 +26,8 @@ static const char listed[KINDS][ANSWERS] = {
     [RECORD_READ] = {[0] = 1, [15] = 1},
     [RECORD_WRITE] = {[0] = 1, [7] = 1, [1] = 1, [10] = 1, [11] = 1, [17] = 1},
     [PLAN] = {[0] = 1, [18] = 1, [19] = 1},
-    [PDU] = {[0] = 1, [16] = 1, [10] = 1, [7] = 1, [8] = 1, [12] = 1, [3] = 1, [13] = 1, [5] = 1, [6] = 1, [18] = 1, [19] = 1},
+    [PDU] = {[0] = 1, [16] = 1, [10] = 1, [7] = 1, [8] = 1, [12] = 1, [3] = 1, [13] = 1, [5] = 1, [6] = 1, [18] = 1,
+             [19] = 1},
     [SLOTLIST] = {[0] = 1, [15] = 1, [9] = 1, [17] = 1},
     [PLAIN] = {[0] = 1, [1] = 1, [2] = 1, [3] = 1, [5] = 1, [4] = 1, [6] = 1},
 };

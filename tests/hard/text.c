@@ -242,7 +242,8 @@ static void replace(struct bytes *text, size_t place, size_t lost, const char *b
 
 static void damage_bytes(struct source *source, struct bytes *text)
 {
-    static const char unlikely[] = {0, 1, '\t', '\n', 0x0b, '\r', 0x1a, ' ', '"', ',', '=', '0', 0x7f, '\x80', '\xa0', '\xff'};
+    static const char unlikely[] = {0,   1,   '\t', '\n', 0x0b, '\r',   0x1a,   ' ',
+                                    '"', ',', '=',  '0',  0x7f, '\x80', '\xa0', '\xff'};
     uint8_t way = source_byte(source) % 16;
     size_t place = text->count == 0 ? 0 : source_below(source, text->count);
     char byte = (char)source_byte(source);

@@ -52,9 +52,9 @@ static void raise_to(size_t *most, size_t number)
         *most = number;
 }
 
-static void raise_found(struct found *most, const void *bytes, size_t count)
+static void raise_found(struct found *most)
 {
-    struct found found = secrets_search(bytes, count);
+    struct found found = secrets_found();
 
     for (int i = 0; i < SECRETS; i++)
         raise_to(&most->bytes[i], found.bytes[i]);
@@ -67,6 +67,16 @@ static size_t not_zero(struct stack_left left)
     for (size_t i = 0; i < left.count; i++)
         count += left.bytes[i] != 0;
     return count;
+}
+
+/* Each by itself: what stands beside it here is another register, and may go on by chance. */
+static void look_at_registers(void)
+{
+    const struct registers *kept = &registers_kept;
+
+    secrets_look((const uint8_t *)kept->narrow, sizeof kept->narrow, sizeof kept->narrow[0]);
+    secrets_look(kept->vector[0], sizeof kept->vector, sizeof kept->vector[0]);
+    secrets_look(kept->wide[0], sizeof kept->wide, sizeof kept->wide[0]);
 }
 
 static int measure(const struct keyed_call *call, void (*work)(void), struct most *most)
@@ -83,17 +93,21 @@ static int measure(const struct keyed_call *call, void (*work)(void), struct mos
     }
     raise_to(&most->stack, left.count);
     raise_to(&most->not_zero, not_zero(left));
-    raise_found(&most->on_stack, left.bytes, left.count);
-    raise_found(&most->in_registers, &registers_kept, sizeof registers_kept);
+    secrets_look(left.bytes, left.count, left.count);
+    raise_found(&most->on_stack);
+    look_at_registers();
+    raise_found(&most->in_registers);
     return 0;
 }
 
 static int planted_is_found(void)
 {
     struct stack_left left = stack_run(plant);
-    struct found found = secrets_search(left.bytes, left.count);
+    struct found found;
     int faults = 0;
 
+    secrets_look(left.bytes, left.count, left.count);
+    found = secrets_found();
     for (int i = 0; i < SECRETS; i++)
         faults += found.bytes[i] < 8;
     return faults == 0;

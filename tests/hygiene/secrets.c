@@ -100,21 +100,28 @@ static void mark(const struct window *window)
         marks[window->secret][window->place + i * window->step] = 1;
 }
 
-struct found secrets_search(const uint8_t *bytes, size_t count)
+void secrets_look(const uint8_t *bytes, size_t count, size_t part)
 {
-    struct found found = {{0}};
     struct window looked;
     const struct window *hit;
 
-    memset(marks, 0, sizeof marks);
     for (size_t i = 0; i + WINDOW <= count; i++) {
+        if (i % part + WINDOW > part)
+            continue;
         memcpy(looked.bytes, bytes + i, WINDOW);
         hit = bsearch(&looked, windows, window_count, sizeof windows[0], by_bytes);
         if (hit != NULL)
             mark(hit);
     }
+}
+
+struct found secrets_found(void)
+{
+    struct found found = {{0}};
+
     for (int secret = 0; secret < SECRETS; secret++)
         for (size_t i = 0; i < MOST_SECRET; i++)
             found.bytes[secret] += marks[secret][i];
+    memset(marks, 0, sizeof marks);
     return found;
 }

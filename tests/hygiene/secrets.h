@@ -33,6 +33,10 @@ void secrets_ready(void);
 /* Eight bytes of a secret, to see that they are found. */
 const uint8_t *secrets_sample(enum secret secret);
 
-struct found secrets_search(const uint8_t *bytes, size_t count);
+/* Looks for the secrets in these bytes, no window reaching from one part of so many bytes into the next. */
+void secrets_look(const uint8_t *bytes, size_t count, size_t part);
+
+/* What was found since this was last asked. */
+struct found secrets_found(void);
 
 #endif

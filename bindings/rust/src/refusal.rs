@@ -26,7 +26,7 @@ pub enum Refusal {
     Length,
     /// 5: buffer above 8,192 bytes.
     Buffer,
-    /// 6: start + length above 8 times the buffer's bytes.
+    /// 6: start + length, or a PDU's length, above 8 times the buffer's bytes.
     Span,
     /// 7: slot number not 1..32.
     SlotNumber,
@@ -94,7 +94,7 @@ const SENTENCES: [&str; 19] = [
     "the initial value isn't 10 bytes; look at how long it is",
     "the length is 0, or skip and length together are above 8,288 bits; look at the span's length and skip",
     "the buffer is longer than 8,192 bytes; look at whether more than one PDU is handed over",
-    "the span ends after the buffer's last bit; look at its start and length, which count bits and not bytes",
+    "the span, or the PDU, ends after the buffer's last bit; look at its start and length, which count bits and not bytes",
     "the slot number isn't 1 to 32; look at the number, which counts from 1",
     "the slot is empty; look at whether its key was loaded, or moved to another slot",
     "the target slot is filled; look at what it holds, and clear it if that key is done with",
