@@ -29,7 +29,7 @@ pieces-fit buf l p q h none = (none-fits buf, none-fits buf, λ k. absurd (omega
 pieces-fit buf l p q h (one t) = (taken-fits buf l p h t, none-fits buf, λ k. absurd (omega arith))
 pieces-fit buf l p q h (two t u b) = (taken-fits buf l p h t, taken-fits buf l q h u, λ k. b .stream)
 
--- no piece: no block, and no bit changes
+-- a piece has a block; no piece: no block, and no bit changes
 
 module _ (p : Plan) where
   empty-first : hasNoPiece p ≡ true → p .first .length ≡ 0
@@ -38,14 +38,14 @@ module _ (p : Plan) where
   empty-second : hasNoPiece p ≡ true → p .second .length ≡ 0
   empty-second e = eqb-true (p .second .length) 0 (and-right (eqb (p .first .length) 0) (eqb (p .second .length) 0) e)
 
-  pub none-blocks : hasNoPiece p ≡ true → planBlocks p ≡ 0
-  none-blocks e =
-      rw (empty-second e) (both-none (p .first .skip) (p .first .length) (p .second .skip) ∙ used-none (p .first .skip) (p .first .length) (empty-first e))
-
   pub some-blocks : hasNoPiece p ≡ false → 0 < planBlocks p
   some-blocks e =
       both-pos (p .first .skip) (p .first .length) (p .second .skip) (p .second .length)
       (λ a b. true≢false (sym (λ i. eqb (a i) 0 && eqb (b i) 0) ∙ e))
+
+  pub none-blocks : hasNoPiece p ≡ true → planBlocks p ≡ 0
+  none-blocks e =
+      rw (empty-second e) (both-none (p .first .skip) (p .first .length) (p .second .skip) ∙ used-none (p .first .skip) (p .first .length) (empty-first e))
 
   pub none-ciphered : (buf : List ℕ) (k : ℕ → ℕ) → Bytes buf → hasNoPiece p ≡ true → ciphered buf k p ≡ buf
   none-ciphered buf k small e =

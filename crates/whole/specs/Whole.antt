@@ -49,8 +49,11 @@ wholeRefusalOf bad slot direction number iv buf u =
     (planRefusal (u .kind) (u .state) (flagOf u buf) (u .length) (u .address) (u .sdu))
 
 -- a piece of a plan, as a run of keystream
+abbrev pub runFrom : Piece → ℕ → Run
+runFrom p skip = record { start = p .start; n = p .length; skip = skip }
+
 abbrev pub runOf : Piece → Run
-runOf p = record { start = p .start; n = p .length; skip = p .skip }
+runOf p = runFrom p (p .skip)
 
 abbrev pub hasNoPiece : Plan → Bool
 hasNoPiece p = eqb (p .first .length) 0 && eqb (p .second .length) 0

@@ -6,7 +6,7 @@ ghost use Rattle.span.specs.Span.{longestBuffer};
 ghost use Rattle.keystream.specs.Stream.{keystream};
 ghost use Rattle.keystream.specs.Work.{Fits, Later};
 ghost use Rattle.ciphering.specs.Span.{schedulesFor};
-ghost use Rattle.whole.specs.Whole.{flagOf, roomRefusal, openRefusalOf, wholePlan, runOf, hasNoPiece, ciphered, planBlocks, wholeRefusalOf, wholedOf, wholeBlocksOf};
+ghost use Rattle.whole.specs.Whole.{flagOf, roomRefusal, openRefusalOf, wholePlan, runFrom, runOf, hasNoPiece, ciphered, planBlocks, wholeRefusalOf, wholedOf, wholeBlocksOf};
 use ciphering::Report;
 use ciphering::lent::iv_of;
 use keystream::Run;
@@ -88,13 +88,14 @@ fn open_refusal(
     )
 }
 
-fn run_of(p: Piece) -> Run
-    ensures { λ r. ⌜ r ≡ runOf p ⌝ }
+// The bits of a piece, with the keystream's from `skip` on.
+fn run_of(p: Piece, skip: usize) -> Run
+    ensures { λ r. ⌜ r ≡ runFrom p skip ⌝ }
 {
     Run {
         start: p.start,
         n: p.length,
-        skip: p.skip,
+        skip,
     }
 }
 
@@ -116,7 +117,9 @@ fn cipher_pieces(buf: &mut [u8], p: Plan, algorithm: u64, key: [u8; 24], iv: [u8
     if has_no_piece(p) {
         return NOTHING_MADE;
     }
-    keystream::xor_runs(buf, run_of(p.first), run_of(p.second), algorithm, key, iv)
+    let first = run_of(p.first, p.first.skip);
+    let second = run_of(p.second, p.second.skip);
+    keystream::xor_runs(buf, first, second, algorithm, key, iv)
 }
 
 // Each piece of the PDU's plan becomes itself xor its part of the keystream; every other bit stays. Refusals 16, 10, 7, 8, 12, 3, 13, 5, 6, 18, 19,
@@ -136,8 +139,9 @@ pub fn whole_of(
         × (r .schedules ≡ schedulesFor (wholeBlocksOf bad slot direction number (now (iv .entry)) (now (buf .entry)) pdu)) ⌝ }
 {
     let p = plan_of(pdu, &buf[..]);
+    let planned = p.refusal;
     let open = open_refusal(bad, slot, direction, number, iv, buf.len(), pdu.length);
-    let refusal = refuse(open != refusals::DONE, open, p.refusal);
+    let refusal = refuse(open != refusals::DONE, open, planned);
     if refusal != refusals::DONE {
         return Report {
             refusal,

@@ -28,20 +28,20 @@ xor-runs-requires : tie.Need-xor-runs-requires
 xor-runs-requires c κs =
     let s = c .before .before .before .before .before .before in
     let buf = s .args .buf .now in
-    let first = c .before .run-of .ensures in
-    let second = c .run-of2 .ensures in (
+    let first = c .before .before .run-of .ensures in
+    let second = c .before .run-of2 .ensures in (
       s .pre .0,
       subst (Fits buf) (sym first) (s .pre .1),
       subst (Fits buf) (sym second) (s .pre .2),
-      subst (λ (p : Run). Later p (c .run-of2 .result)) (sym first) (subst (Later (runOf (s .args .p .first))) (sym second) (s .pre .3)),
+      subst (λ (p : Run). Later p (c .before .run-of2 .result)) (sym first) (subst (Later (runOf (s .args .p .first))) (sym second) (s .pre .3)),
     )
 
 returns-2 : tie.Need-returns-2
 returns-2 c =
     let ran = c .before .before in
-    let second = ran .before in
+    let second = ran .before .before in
     let first = second .before in
-    let else = first .before .before in
+    let else = first .before in
     let a = else .before .before .before .args in
     let k = keystream (a .algorithm) (a .key) (a .iv) in
     let some = some-blocks (a .p) (sym (else .before .has-no-piece .ensures) ∙ else .if1 .left) in (
