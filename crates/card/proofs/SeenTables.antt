@@ -24,7 +24,7 @@ use Rattle.slots.proofs.Puts.{load-put, move-put, clear-put}
 use Rattle.slots.proofs.Passed.{MovePassedOf, load-passed-of, move-passed-of, clear-passed-of}
 use Rattle.traffic.specs.Traffic.{trafficRefusalOf, traffickedOf, trafficBlocksOf}
 use Rattle.slot_list.specs.List.{isTable, isNoTable, placeOf, slotIn, putIn}
-use Rattle.card.specs.Table.{loadedIn, movedIn, clearedIn, shownIn, trafficRefusalIn, traffickedIn, trafficBlocksIn, wholeRefusalIn, wholedIn, wholeBlocksIn}
+use Rattle.card.specs.Table.{loadedIn, movedIn, clearedIn, shownIn, trafficAnswerIn, wholeAnswerIn}
 use Rattle.traffic.proofs.SeenTraffic.{refusal-seen, buffer-seen, blocks-seen}
 use Rattle.whole.specs.declared.Pdu.{Pdu}
 use Rattle.whole.specs.Whole.{wholeRefusalOf, wholedOf, wholeBlocksOf}
@@ -58,7 +58,7 @@ module _ (ys : List Slot) where
     module _ (direction : ℕ) (iv buf : List ℕ) (start n skip : ℕ) where
       pub traffic-in : (r : ℕ) (zs : List ℕ) (k : ℕ)
           → (r ≡ trafficRefusalOf (isNoTable ys) (slotIn ys number) direction number iv buf start n skip) × (zs ≡ traffickedOf (isNoTable ys) (slotIn ys number) direction number iv buf start n skip) × (k ≡ trafficBlocksOf (isNoTable ys) (slotIn ys number) direction number iv buf start n skip)
-          → (r ≡ trafficRefusalIn ys direction number iv buf start n skip) × (zs ≡ traffickedIn ys direction number iv buf start n skip) × (k ≡ trafficBlocksIn ys direction number iv buf start n skip)
+          → (r ≡ (trafficAnswerIn ys direction number iv buf start n skip .refusal)) × (zs ≡ (trafficAnswerIn ys direction number iv buf start n skip .buffer)) × (k ≡ (trafficAnswerIn ys direction number iv buf start n skip .blocks))
       traffic-in r zs k e = (
         e .0 ∙ refusal-seen (isNoTable ys) number (slotIn ys number) (slotAt ys number) there-in direction iv buf start n skip,
         e .1 ∙ buffer-seen (isNoTable ys) number (slotIn ys number) (slotAt ys number) there-in direction iv buf start n skip,
@@ -68,7 +68,7 @@ module _ (ys : List Slot) where
     module _ (direction : ℕ) (iv buf : List ℕ) (u : Pdu) where
       pub whole-in : (r : ℕ) (zs : List ℕ) (k : ℕ)
           → (r ≡ wholeRefusalOf (isNoTable ys) (slotIn ys number) direction number iv buf u) × (zs ≡ wholedOf (isNoTable ys) (slotIn ys number) direction number iv buf u) × (k ≡ wholeBlocksOf (isNoTable ys) (slotIn ys number) direction number iv buf u)
-          → (r ≡ wholeRefusalIn ys direction number iv buf u) × (zs ≡ wholedIn ys direction number iv buf u) × (k ≡ wholeBlocksIn ys direction number iv buf u)
+          → (r ≡ (wholeAnswerIn ys direction number iv buf u .refusal)) × (zs ≡ (wholeAnswerIn ys direction number iv buf u .buffer)) × (k ≡ (wholeAnswerIn ys direction number iv buf u .blocks))
       whole-in r zs k e = (
         e .0 ∙ whole-seen.refusal-seen (isNoTable ys) number (slotIn ys number) (slotAt ys number) there-in direction iv buf u,
         e .1 ∙ whole-seen.buffer-seen (isNoTable ys) number (slotIn ys number) (slotAt ys number) there-in direction iv buf u,

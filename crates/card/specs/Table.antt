@@ -9,10 +9,10 @@ use Rattle.slots.specs.declared.Shown.{Shown}
 use Rattle.slots.specs.Slots.{slotAt}
 use Rattle.slot_list.specs.List.{isNoTable}
 use Rattle.slots.specs.Calls.{loadedBy, movedBy, clearedBy, shownOf}
-use Rattle.ciphering.specs.Span.{Ciphered, cipheredAs}
-use Rattle.traffic.specs.Traffic.{trafficRefusalOf, traffickedOf, trafficBlocksOf}
+use Rattle.ciphering.specs.Span.{Ciphered}
+use Rattle.traffic.specs.Traffic.{trafficAnswerOf}
 use Rattle.whole.specs.declared.Pdu.{Pdu}
-use Rattle.whole.specs.Whole.{wholeRefusalOf, wholedOf, wholeBlocksOf}
+use Rattle.whole.specs.Whole.{wholeAnswerOf}
 
 abbrev pub loadedIn : List Slot → ℕ → Asked → List ℕ → Changed
 loadedIn t number a key = loadedBy (isNoTable t) t number a key
@@ -26,37 +26,16 @@ clearedIn t number = clearedBy (isNoTable t) t number
 abbrev pub shownIn : List Slot → ℕ → Shown
 shownIn t number = shownOf (isNoTable t) (slotAt t number) number
 
-abbrev pub trafficRefusalIn : List Slot → ℕ → ℕ → List ℕ → List ℕ → ℕ → ℕ → ℕ → ℕ
-trafficRefusalIn t direction number iv buf start n skip = trafficRefusalOf (isNoTable t) (slotAt t number) direction number iv buf start n skip
+abbrev pub trafficAnswerIn : List Slot → ℕ → ℕ → List ℕ → List ℕ → ℕ → ℕ → ℕ → Ciphered
+trafficAnswerIn t direction number iv buf start n skip = trafficAnswerOf (isNoTable t) (slotAt t number) direction number iv buf start n skip
 
-abbrev pub traffickedIn : List Slot → ℕ → ℕ → List ℕ → List ℕ → ℕ → ℕ → ℕ → List ℕ
-traffickedIn t direction number iv buf start n skip = traffickedOf (isNoTable t) (slotAt t number) direction number iv buf start n skip
-
-abbrev pub trafficBlocksIn : List Slot → ℕ → ℕ → List ℕ → List ℕ → ℕ → ℕ → ℕ → ℕ
-trafficBlocksIn t direction number iv buf start n skip = trafficBlocksOf (isNoTable t) (slotAt t number) direction number iv buf start n skip
-
-abbrev pub wholeRefusalIn : List Slot → ℕ → ℕ → List ℕ → List ℕ → Pdu → ℕ
-wholeRefusalIn t direction number iv buf u = wholeRefusalOf (isNoTable t) (slotAt t number) direction number iv buf u
-
-abbrev pub wholedIn : List Slot → ℕ → ℕ → List ℕ → List ℕ → Pdu → List ℕ
-wholedIn t direction number iv buf u = wholedOf (isNoTable t) (slotAt t number) direction number iv buf u
-
-abbrev pub wholeBlocksIn : List Slot → ℕ → ℕ → List ℕ → List ℕ → Pdu → ℕ
-wholeBlocksIn t direction number iv buf u = wholeBlocksOf (isNoTable t) (slotAt t number) direction number iv buf u
+abbrev pub wholeAnswerIn : List Slot → ℕ → ℕ → List ℕ → List ℕ → Pdu → Ciphered
+wholeAnswerIn t direction number iv buf u = wholeAnswerOf (isNoTable t) (slotAt t number) direction number iv buf u
 
 -- the answers, part by part as their caller has them
 
 abbrev pub changedAs : ℕ → List Slot → Changed
 changedAs refusal table = record { refusal = refusal; table = table }
-
-abbrev pub trafficAnswerIn : List Slot → ℕ → ℕ → List ℕ → List ℕ → ℕ → ℕ → ℕ → Ciphered
-trafficAnswerIn t direction number iv buf start n skip =
-    cipheredAs (trafficRefusalIn t direction number iv buf start n skip) (traffickedIn t direction number iv buf start n skip)
-    (trafficBlocksIn t direction number iv buf start n skip)
-
-abbrev pub wholeAnswerIn : List Slot → ℕ → ℕ → List ℕ → List ℕ → Pdu → Ciphered
-wholeAnswerIn t direction number iv buf u =
-    cipheredAs (wholeRefusalIn t direction number iv buf u) (wholedIn t direction number iv buf u) (wholeBlocksIn t direction number iv buf u)
 
 abbrev pub shownAs : ℕ → ℕ → ℕ → ℕ → ℕ → ℕ → ℕ → Shown
 shownAs refusal number version algorithm usage side place = record {

@@ -23,7 +23,7 @@ use Rattle.slots.specs.declared.Slot.{Slot}
 use Rattle.slots.specs.Slots.{hasBad, slotAt}
 use Rattle.bench.specs.Bench.{benchRefusal, benched}
 use Rattle.slot_list.specs.List.{isTable, isNoTable}
-use Rattle.card.specs.Table.{trafficRefusalIn, traffickedIn, wholeRefusalIn, wholedIn}
+use Rattle.card.specs.Table.{trafficAnswerIn, wholeAnswerIn}
 use Rattle.whole.specs.declared.Pdu.{Pdu}
 use Rattle.whole.specs.Whole.{wholePlan}
 use Rattle.whole.proofs.Laws.{whole-outside, whole-beyond, whole-twice}
@@ -34,14 +34,14 @@ use Rattle.traffic.proofs.Passed.{traffic-passed-of}
 
 module _ (t : List Slot) (direction number : ℕ) (iv buf : List ℕ) (start n skip : ℕ) where
   -- an accepted call has a table, so that what is known of a table by value is known of the lent one
-  on-table : (P : Bool → Type 0) → trafficRefusalIn t direction number iv buf start n skip ≡ done → P (hasBad t) → P (isNoTable t)
+  on-table : (P : Bool → Type 0) → (trafficAnswerIn t direction number iv buf start n skip .refusal) ≡ done → P (hasBad t) → P (isNoTable t)
   on-table P e p =
       let good = traffic-passed-of (isNoTable t) (slotAt t number) direction number iv buf start n skip e .allowed .good in
       subst P (neither (not (isTable t)) (hasBad t) good .1 ∙ sym good) p
 
   -- "ciphered bits equal ETSI TS 104 053-2 bit by bit": bit start + i of the buffer
-  pub traffic-inside : trafficRefusalIn t direction number iv buf start n skip ≡ done → (i : ℕ) → i < n
-      → bitAt (traffickedIn t direction number iv buf start n skip) (start + i)
+  pub traffic-inside : (trafficAnswerIn t direction number iv buf start n skip .refusal) ≡ done → (i : ℕ) → i < n
+      → bitAt ((trafficAnswerIn t direction number iv buf start n skip .buffer)) (start + i)
       ≡ bitXor (bitAt buf (start + i)) (keystream (slotAt t number .fields .algorithm) (slotAt t number .key) iv (skip + i))
   traffic-inside e i h =
       let k = slotStream (slotAt t number) iv in
@@ -53,16 +53,16 @@ module _ (t : List Slot) (direction number : ℕ) (iv buf : List ℕ) (start n s
       ∙ xored-inside k (stream-lt _) buf start skip n i h (omega arith)
 
   -- "bits beside it never move": whatever the call answers
-  pub traffic-beside : (j : ℕ) → Beside start n j → bitAt (traffickedIn t direction number iv buf start n skip) j ≡ bitAt buf j
+  pub traffic-beside : (j : ℕ) → Beside start n j → bitAt ((trafficAnswerIn t direction number iv buf start n skip .buffer)) j ≡ bitAt buf j
   unfolding traffickedOf
   traffic-beside j beside =
-      pick-cases (λ (l : List ℕ). bitAt l j ≡ bitAt buf j) (eqb (trafficRefusalIn t direction number iv buf start n skip) done)
+      pick-cases (λ (l : List ℕ). bitAt l j ≡ bitAt buf j) (eqb ((trafficAnswerIn t direction number iv buf start n skip .refusal)) done)
       (λ _. xored-outside (slotStream (slotAt t number) iv) (stream-lt _) buf start skip n j beside)
       (λ _. refl)
 
   -- "the same span ciphered again, with all else alike, comes back"
-  pub traffic-again : ((q : ℕ) → getD buf q 0 < 256) → trafficRefusalIn t direction number iv buf start n skip ≡ done
-      → traffickedIn t direction number iv (traffickedIn t direction number iv buf start n skip) start n skip ≡ buf
+  pub traffic-again : ((q : ℕ) → getD buf q 0 < 256) → (trafficAnswerIn t direction number iv buf start n skip .refusal) ≡ done
+      → (trafficAnswerIn t direction number iv ((trafficAnswerIn t direction number iv buf start n skip .buffer)) start n skip .buffer) ≡ buf
   traffic-again bytes e =
       on-table (λ b. trafficRefusalOf b (slotAt t number) direction number iv buf start n skip ≡ done
       → traffickedOf b (slotAt t number) direction number iv (traffickedOf b (slotAt t number) direction number iv buf start n skip) start n skip ≡ buf) e
@@ -70,17 +70,17 @@ module _ (t : List Slot) (direction number : ℕ) (iv buf : List ℕ) (start n s
 
 -- the call for a whole PDU (document 02, [1]): bits beside its pieces never move, and neither does a bit from its length on; the same call on the
 -- result, over any table that has the same slot, brings it back
-module _ (t : List Slot) (direction number : ℕ) (iv buf : List ℕ) (u : Pdu) (e : wholeRefusalIn t direction number iv buf u ≡ done) where
+module _ (t : List Slot) (direction number : ℕ) (iv buf : List ℕ) (u : Pdu) (e : (wholeAnswerIn t direction number iv buf u .refusal) ≡ done) where
   pub pdu-beside : (j : ℕ) → Beside (wholePlan buf u .first .start) (wholePlan buf u .first .length) j
-      → Beside (wholePlan buf u .second .start) (wholePlan buf u .second .length) j → bitAt (wholedIn t direction number iv buf u) j ≡ bitAt buf j
+      → Beside (wholePlan buf u .second .start) (wholePlan buf u .second .length) j → bitAt ((wholeAnswerIn t direction number iv buf u .buffer)) j ≡ bitAt buf j
   pdu-beside = whole-outside (isNoTable t) (slotAt t number) direction number iv buf u e
 
-  pub pdu-beyond : (j : ℕ) → u .length ≤ j → bitAt (wholedIn t direction number iv buf u) j ≡ bitAt buf j
+  pub pdu-beyond : (j : ℕ) → u .length ≤ j → bitAt ((wholeAnswerIn t direction number iv buf u .buffer)) j ≡ bitAt buf j
   pdu-beyond = whole-beyond (isNoTable t) (slotAt t number) direction number iv buf u e
 
   pub pdu-again : (t′ : List Slot) → isNoTable t′ ≡ false → slotAt t′ number ≡ slotAt t number → ((q : ℕ) → getD buf q 0 < 256)
-      → (wholeRefusalIn t′ direction number iv (wholedIn t direction number iv buf u) u ≡ done)
-      × (wholedIn t′ direction number iv (wholedIn t direction number iv buf u) u ≡ buf)
+      → ((wholeAnswerIn t′ direction number iv ((wholeAnswerIn t direction number iv buf u .buffer)) u .refusal) ≡ done)
+      × ((wholeAnswerIn t′ direction number iv ((wholeAnswerIn t direction number iv buf u .buffer)) u .buffer) ≡ buf)
   pdu-again t′ = whole-twice (isNoTable t) (slotAt t number) direction number iv buf u e (isNoTable t′) (slotAt t′ number)
 
 module _ (algorithm : ℕ) (key iv buf : List ℕ) (n : ℕ) where

@@ -27,7 +27,7 @@ use Rattle.sheet.specs.Sheet.{room, listedLength, listedBuffer}
 use Rattle.bench.specs.Bench.{benchRefusal, benched, benchBlocks}
 use Rattle.card.specs.Faces.{pieceNumbers}
 use Rattle.slot_list.specs.List.{isNoTable}
-use Rattle.card.specs.Table.{loadedIn, movedIn, clearedIn, shownIn, trafficRefusalIn, traffickedIn, trafficBlocksIn, wholeRefusalIn, wholedIn, wholeBlocksIn}
+use Rattle.card.specs.Table.{loadedIn, movedIn, clearedIn, shownIn, trafficAnswerIn, wholeAnswerIn}
 use Rattle.whole.specs.declared.Pdu.{Pdu}
 use Rattle.whole.proofs.Calls.{whole-refused, whole-no-blocks}
 use Rattle.traffic.specs.Traffic.{traffickedOf, trafficBlocksOf}
@@ -59,15 +59,15 @@ module _ (t : List Slot) where
       go false n = (refl, refl)
 
   -- `card_traffic`: the buffer is as it was, and no block is reported
-  pub traffic-refused-in : (direction number : ℕ) (iv buf : List ℕ) (start n skip : ℕ) → (trafficRefusalIn t direction number iv buf start n skip ≡ done → ⊥)
-      → (traffickedIn t direction number iv buf start n skip ≡ buf) × (trafficBlocksIn t direction number iv buf start n skip ≡ 0)
+  pub traffic-refused-in : (direction number : ℕ) (iv buf : List ℕ) (start n skip : ℕ) → ((trafficAnswerIn t direction number iv buf start n skip .refusal) ≡ done → ⊥)
+      → ((trafficAnswerIn t direction number iv buf start n skip .buffer) ≡ buf) × ((trafficAnswerIn t direction number iv buf start n skip .blocks) ≡ 0)
   unfolding traffickedOf trafficBlocksOf
   traffic-refused-in direction number iv buf start n skip r =
-      rw (ne-eqb (trafficRefusalIn t direction number iv buf start n skip) done r) (refl, refl)
+      rw (ne-eqb ((trafficAnswerIn t direction number iv buf start n skip .refusal)) done r) (refl, refl)
 
   -- `card_pdu`: the same
-  pub pdu-refused-in : (direction number : ℕ) (iv buf : List ℕ) (u : Pdu) → (wholeRefusalIn t direction number iv buf u ≡ done → ⊥)
-      → (wholedIn t direction number iv buf u ≡ buf) × (wholeBlocksIn t direction number iv buf u ≡ 0)
+  pub pdu-refused-in : (direction number : ℕ) (iv buf : List ℕ) (u : Pdu) → ((wholeAnswerIn t direction number iv buf u .refusal) ≡ done → ⊥)
+      → ((wholeAnswerIn t direction number iv buf u .buffer) ≡ buf) × ((wholeAnswerIn t direction number iv buf u .blocks) ≡ 0)
   pdu-refused-in direction number iv buf u r = (
     whole-refused (isNoTable t) (slotAt t number) direction number iv buf u r,
     whole-no-blocks (isNoTable t) (slotAt t number) direction number iv buf u r,

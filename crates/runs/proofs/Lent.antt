@@ -6,7 +6,7 @@ use borrow.Author.Tests.{eq-eqb}
 use lib.ListN.{length}
 use Rattle.fields.specs.declared.Asked.{Asked}
 use Rattle.slots.specs.declared.Slot.{Slot}
-use Rattle.card.specs.Table.{loadedIn, movedIn, clearedIn, shownIn, trafficRefusalIn, trafficBlocksIn, traffickedIn, wholeRefusalIn, wholeBlocksIn, wholedIn}
+use Rattle.card.specs.Table.{loadedIn, movedIn, clearedIn, shownIn, trafficAnswerIn, wholeAnswerIn}
 use Rattle.whole.specs.declared.Pdu.{Pdu}
 use Rattle.runs.specs.Calls.{span, pdu, load, move, clear, read, traffic}
 use Rattle.runs.specs.Step.{changing, reading, ciphering}
@@ -30,13 +30,13 @@ module _ (t : List Slot) (whole : length t ≡ 32) where
   lent-read-steps number = rw (eq-eqb (length t) 32 whole)
 
   pub lent-traffic-steps : (direction number : ℕ) (iv buf : List ℕ) (begin n skip : ℕ)
-      → ciphering t (trafficRefusalIn t direction number iv buf begin n skip) (trafficBlocksIn t direction number iv buf begin n skip) (traffickedIn t direction number iv buf begin n skip)
+      → ciphering t ((trafficAnswerIn t direction number iv buf begin n skip .refusal)) ((trafficAnswerIn t direction number iv buf begin n skip .blocks)) ((trafficAnswerIn t direction number iv buf begin n skip .buffer))
       ≡ step ourCard t (traffic (record { direction = direction; number = number; iv = iv }) buf (span begin n skip))
   unfolding step
   lent-traffic-steps direction number iv buf begin n skip = rw (eq-eqb (length t) 32 whole)
 
   pub lent-pdu-steps : (direction number : ℕ) (iv buf : List ℕ) (u : Pdu)
-      → ciphering t (wholeRefusalIn t direction number iv buf u) (wholeBlocksIn t direction number iv buf u) (wholedIn t direction number iv buf u)
+      → ciphering t ((wholeAnswerIn t direction number iv buf u .refusal)) ((wholeAnswerIn t direction number iv buf u .blocks)) ((wholeAnswerIn t direction number iv buf u .buffer))
       ≡ step ourCard t (traffic (record { direction = direction; number = number; iv = iv }) buf (pdu u))
   unfolding step
   lent-pdu-steps direction number iv buf u = rw (eq-eqb (length t) 32 whole)

@@ -15,7 +15,7 @@ use Rattle.slots.specs.Rights.{isDirection, includes}
 use Rattle.slots.specs.Calls.{slotRefusalOf}
 use Rattle.span.specs.Span.{xored, blocksUsed}
 use Rattle.keystream.specs.Stream.{keystream}
-use Rattle.ciphering.specs.Span.{spanRefusal}
+use Rattle.ciphering.specs.Span.{spanRefusal, Ciphered, cipheredAs}
 
 -- the house rule: a send needs IV bit `place` equal to side, a receive needs the other value
 abbrev pub onSide : ℕ → Fields → List ℕ → Bool
@@ -53,6 +53,12 @@ traffickedOf bad slot direction number iv buf start n skip =
 unfoldable pub trafficBlocksOf : Bool → Slot → ℕ → ℕ → List ℕ → List ℕ → ℕ → ℕ → ℕ → ℕ
 trafficBlocksOf bad slot direction number iv buf start n skip =
     pick (eqb (trafficRefusalOf bad slot direction number iv buf start n skip) done) (blocksUsed skip n) 0
+
+-- all that the call answers
+abbrev pub trafficAnswerOf : Bool → Slot → ℕ → ℕ → List ℕ → List ℕ → ℕ → ℕ → ℕ → Ciphered
+trafficAnswerOf bad slot direction number iv buf start n skip =
+    cipheredAs (trafficRefusalOf bad slot direction number iv buf start n skip) (traffickedOf bad slot direction number iv buf start n skip)
+    (trafficBlocksOf bad slot direction number iv buf start n skip)
 
 -- the same of a table
 

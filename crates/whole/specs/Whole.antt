@@ -17,6 +17,7 @@ use Rattle.plan.specs.Plan.{planRefusal, planOf}
 use Rattle.span.specs.Span.{longestBuffer}
 use Rattle.keystream.specs.declared.Run.{Run}
 use Rattle.keystream.specs.Work.{throughRun, blocksOver}
+use Rattle.ciphering.specs.Span.{Ciphered, cipheredAs}
 use Rattle.traffic.specs.Traffic.{useRefusalOf, slotStream}
 use Rattle.whole.specs.declared.Pdu.{Pdu}
 
@@ -75,6 +76,11 @@ planBlocks p = blocksOver (runOf (p .first)) (runOf (p .second))
 unfoldable pub wholeBlocksOf : Bool → Slot → ℕ → ℕ → List ℕ → List ℕ → Pdu → ℕ
 wholeBlocksOf bad slot direction number iv buf u =
     pick (eqb (wholeRefusalOf bad slot direction number iv buf u) done) (planBlocks (wholePlan buf u)) 0
+
+-- all that the call answers
+abbrev pub wholeAnswerOf : Bool → Slot → ℕ → ℕ → List ℕ → List ℕ → Pdu → Ciphered
+wholeAnswerOf bad slot direction number iv buf u =
+    cipheredAs (wholeRefusalOf bad slot direction number iv buf u) (wholedOf bad slot direction number iv buf u) (wholeBlocksOf bad slot direction number iv buf u)
 
 -- the same of a table
 
