@@ -16,12 +16,13 @@
 extern "C" {
 #endif
 
-/* Writes keystream bits skip to skip + length - 1 from bit 0 of the buffer on, and keeps the buffer's later bits. With
-   skip 0 it is card_bench. `blocks` becomes the number of keystream blocks, of 256 bits, in which a used bit lies.
-   length and skip may be any numbers: their sum never wraps.
+/* Writes keystream bits from skip_bits on, length_bits of them, from bit 0 of the buffer on, and keeps the buffer's later
+   bits. With skip 0 it is card_bench. `blocks` becomes the number of keystream blocks, of 256 bits, in which a used bit
+   lies. Length and skip may be any numbers: their sum never wraps.
    Refused: 1, 2, 3, 5, 4, 6. */
 uint8_t card_plain(uint64_t algorithm, const uint8_t *key, size_t key_bytes, const uint8_t *iv, size_t iv_bytes,
-                   uint8_t *buffer, size_t buffer_bytes, size_t length, size_t skip, size_t *blocks);
+                   uint8_t *buffer, size_t buffer_bytes, size_t length_bits, size_t skip_bits,
+                   size_t *blocks);
 
 #ifdef __cplusplus
 }

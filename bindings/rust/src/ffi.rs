@@ -94,8 +94,8 @@ extern "C" {
         iv_bytes: usize,
         buffer: *mut u8,
         buffer_bytes: usize,
-        length: usize,
-        skip: usize,
+        length_bits: usize,
+        skip_bits: usize,
         blocks: *mut usize,
     ) -> u8;
 
