@@ -18,10 +18,10 @@ use Rattle.forms.proofs.Hexes.{value-small, digit-of-value}
 use Rattle.writing.proofs.Puts.{length-hex}
 use Rattle.lines.specs.Line.{afterSpaces, part}
 use Rattle.lines.specs.Parts.{numberOf, areBytes, bytesOf}
-use Rattle.cases.specs.Case.{joined, caseLine, Narrow, Bytes, GoodCase, lastPart, isNumber, numbersReadable, isReadable, caseOf}
+use Rattle.case_reader.specs.Case.{joined, caseLine, Narrow, Bytes, GoodCase, lastPart, isNumber, numbersReadable, isReadable, caseOf}
 use Rattle.lines.proofs.Digits.{number-text}
 use Rattle.lines.proofs.Hexes.{even, digit-at, length-bytes}
-use Rattle.cases.proofs.Passed.{key-readable, iv-readable, buffer-readable}
+use Rattle.case_reader.proofs.Passed.{key-readable, iv-readable, buffer-readable}
 use Rattle.lines.proofs.Pieces.{cut-at, some-before}
 
 -- the bytes w spell the value v, and it is narrow

@@ -15,9 +15,9 @@ use Rattle.writing.specs.Writing.{Put}
 use Rattle.writing.proofs.Puts.{put-length, length-hex}
 use Rattle.writing.proofs.Digits.{digits-fit, line-length}
 use Rattle.lines.specs.Line.{space, indexOf, upTo}
-use Rattle.cases.specs.Case.{Case, isReadable, caseOf, refusalOf, Accepted}
+use Rattle.case_reader.specs.Case.{Case, isReadable, caseOf, refusalOf, Accepted}
 use Rattle.cases.specs.Answer.{valueText, modeText, ciphered, bufferText, acceptedText, refusedText, unreadableText, caseText, answerText, answerRoom}
-use Rattle.cases.proofs.Passed.{passed}
+use Rattle.case_reader.proofs.Passed.{passed}
 
 module _ (line : List ℕ) where
   pub text-unreadable : isReadable line ≡ false → unreadableText ≡ caseText line

@@ -11,7 +11,7 @@ use Rattle.tea.specs.Mode.{modeOf}
 use Rattle.keystream.specs.Stream.{keystream}
 use Rattle.writing.specs.Text.{ascii, lf, digits, hexText, lineText}
 use Rattle.lines.specs.Line.{space, indexOf, upTo}
-use Rattle.cases.specs.Case.{Case, isReadable, caseOf, refusalOf}
+use Rattle.case_reader.specs.Case.{Case, isReadable, caseOf, refusalOf}
 
 -- bytes and a space
 abbrev pub valueText : List ℕ → List ℕ

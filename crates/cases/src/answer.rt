@@ -1,8 +1,8 @@
 // Writers of an answer's parts. Each puts a text into the buffer from a place on, and answers with the place at which it ends.
-use crate::case::buffer_size;
-use crate::case::iv_of;
-use crate::case::key_of;
-use crate::case::value;
+use case_reader::buffer_size;
+use case_reader::iv_of;
+use case_reader::key_of;
+use case_reader::value;
 use keystream::Run;
 use lines::after_spaces;
 use lines::bytes::read_bytes;
@@ -15,7 +15,7 @@ ghost use Prim.Native.Nat.{_+_, _≤_, _/_};
 ghost use lib.ListN.{length};
 ghost use Rattle.span.specs.Span.{longestBuffer};
 ghost use Rattle.writing.specs.Writing.{Room, Put};
-ghost use Rattle.cases.specs.Case.{lastPart, caseOf, Accepted};
+ghost use Rattle.case_reader.specs.Case.{lastPart, caseOf, Accepted};
 ghost use Rattle.cases.specs.Answer.{valueText, modeText, ciphered, bufferText, acceptedText, answerRoom};
 
 // A value of 24 bytes and a space: 49 bytes.

@@ -1,10 +1,9 @@
 // What the program `vectors` prints: the answer to a case, which is a line of its input.
 mod answer;
-mod case;
 
 use answer::put_accepted;
-use case::case_refusal;
-use case::is_readable;
+use case_reader::case_refusal;
+use case_reader::is_readable;
 use lines::index_of;
 use lines::piece_length;
 use writing::put_bytes;

@@ -6,7 +6,7 @@ use lib.ListN.{length}
 use borrow.Author.Needs.{needs}
 use borrow.Author.Tests.{not-true, not-false}
 use Rattle.writing.proofs.Puts.{put-length, put-as}
-use Rattle.cases.specs.Case.{Accepted}
+use Rattle.case_reader.specs.Case.{Accepted}
 use Rattle.cases.specs.Answer.{refusedText, answerRoom}
 use Rattle.cases.proofs.Texts.{text-unreadable, text-refused, text-accepted, accepted-fits, refused-fits}
 use Rattle.cases.proofs.put_case.Statement.{statement}

@@ -8,9 +8,9 @@ use borrow.Author.Needs.{needs}
 use Rattle.span.specs.Span.{xored}
 use Rattle.keystream.specs.Stream.{keystream}
 use Rattle.lines.specs.Parts.{areBytes, bytesOf}
-use Rattle.cases.specs.Case.{caseOf}
+use Rattle.case_reader.specs.Case.{caseOf}
 use Rattle.cases.specs.Answer.{ciphered}
-use Rattle.cases.proofs.Passed.{passed, buffer-readable}
+use Rattle.case_reader.proofs.Passed.{passed, buffer-readable}
 use Rattle.cases.proofs.answer.cipher.Statement.{statement}
 use Rattle.cases.proofs.answer.cipher.Tie as tie
 

@@ -4,7 +4,7 @@ use mathlib.Core.Path.{_≡_}
 use native.Mathlib.Omega.{arith}
 use borrow.Author.Needs.{needs}
 use Rattle.writing.proofs.Puts.{put-then, put-length, put-as}
-use Rattle.cases.specs.Case.{caseOf}
+use Rattle.case_reader.specs.Case.{caseOf}
 use Rattle.cases.specs.Answer.{modeText, bufferText, acceptedText}
 use Rattle.cases.proofs.Texts.{mode-length, buffer-fits}
 use Rattle.cases.proofs.answer.put_accepted.Statement.{statement}

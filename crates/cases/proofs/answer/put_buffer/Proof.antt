@@ -5,7 +5,7 @@ use native.Mathlib.Omega.{arith}
 use lib.ListN.{length}
 use lib.Seq.{length-take-le}
 use borrow.Author.Needs.{needs}
-use Rattle.cases.proofs.Passed.{buffer-small}
+use Rattle.case_reader.proofs.Passed.{buffer-small}
 use Rattle.cases.proofs.answer.put_buffer.Statement.{statement}
 use Rattle.cases.proofs.answer.put_buffer.Tie as tie
 

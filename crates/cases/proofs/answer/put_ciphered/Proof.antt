@@ -5,7 +5,7 @@ use Prim.Native.Nat.{ℕ}
 use borrow.Author.Needs.{needs}
 use Rattle.writing.specs.Text.{lf, hexText}
 use Rattle.writing.proofs.Puts.{put-then, put-length, put-as, room-first, room-then, room-as}
-use Rattle.cases.specs.Case.{caseOf}
+use Rattle.case_reader.specs.Case.{caseOf}
 use Rattle.cases.specs.Answer.{bufferText}
 use Rattle.cases.proofs.answer.put_ciphered.Statement.{statement}
 use Rattle.cases.proofs.answer.put_ciphered.Tie as tie

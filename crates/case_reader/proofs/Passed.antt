@@ -10,7 +10,7 @@ use Rattle.laws.proofs.Cases.{and-left, and-right}
 use Rattle.bench.proofs.Passed.{KeyedPassed, keyed-passed}
 use Rattle.lines.specs.Line.{part}
 use Rattle.lines.specs.Parts.{areBytes}
-use Rattle.cases.specs.Case.{Case, lastPart, numbersReadable, isReadable, caseOf, Accepted}
+use Rattle.case_reader.specs.Case.{Case, lastPart, numbersReadable, isReadable, caseOf, Accepted}
 use Rattle.lines.proofs.Hexes.{length-bytes}
 
 -- a readable line's bytes are bytes

@@ -1,4 +1,4 @@
--- `case::case_refusal`: the refusal by what was measured and read. Assumes nothing.
+-- `case_reader::case_refusal`: the refusal by what was measured and read. Assumes nothing.
 use mathlib.Core.List.{List}
 use mathlib.Core.Path.{_≡_, sym, _∙_}
 use Prim.Native.Nat.{ℕ, _/_}
@@ -7,10 +7,10 @@ use borrow.Author.Needs.{needs}
 use Rattle.bench.specs.Bench.{keyedRefusal}
 use Rattle.lines.specs.Line.{part}
 use Rattle.lines.specs.Parts.{bytesOf}
-use Rattle.cases.specs.Case.{lastPart, caseOf}
+use Rattle.case_reader.specs.Case.{lastPart, caseOf}
 use Rattle.lines.proofs.Hexes.{length-bytes}
-use Rattle.cases.proofs.case.case_refusal.Statement.{statement}
-use Rattle.cases.proofs.case.case_refusal.Tie as tie
+use Rattle.case_reader.proofs.case_refusal.Statement.{statement}
+use Rattle.case_reader.proofs.case_refusal.Tie as tie
 
 -- a size that was measured
 sized : (s : List ℕ) {n : ℕ} → n ≡ length s / 2 → n ≡ length (bytesOf s)

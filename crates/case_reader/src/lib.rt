@@ -11,7 +11,7 @@ ghost use Prim.Native.Nat.{_/_};
 ghost use lib.ListN.{length};
 ghost use Rattle.lines.specs.Line.{part};
 ghost use Rattle.lines.specs.Parts.{numberOf};
-ghost use Rattle.cases.specs.Case.{isNumber, lastPart, numbersReadable, isReadable, caseOf, refusalOf, Accepted};
+ghost use Rattle.case_reader.specs.Case.{isNumber, lastPart, numbersReadable, isReadable, caseOf, refusalOf, Accepted};
 
 fn is_number(line: &[u8], k: usize) -> bool
     ensures { λ r. ⌜ r ≡ isNumber k (now (line .entry)) ⌝ }

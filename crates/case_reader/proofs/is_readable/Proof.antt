@@ -1,11 +1,11 @@
--- `case::is_readable`: the numbers and the bytes together. Assumes nothing.
+-- `case_reader::is_readable`: the numbers and the bytes together. Assumes nothing.
 use mathlib.Core.Path.{ap, _∙_}
 use mathlib.Core.Bool.{_&&_}
 use borrow.Author.Needs.{needs}
 use Rattle.lines.specs.Parts.{areBytes}
-use Rattle.cases.specs.Case.{isReadable}
-use Rattle.cases.proofs.case.is_readable.Statement.{statement}
-use Rattle.cases.proofs.case.is_readable.Tie as tie
+use Rattle.case_reader.specs.Case.{isReadable}
+use Rattle.case_reader.proofs.is_readable.Statement.{statement}
+use Rattle.case_reader.proofs.is_readable.Tie as tie
 
 returns : tie.Need-returns
 unfolding isReadable

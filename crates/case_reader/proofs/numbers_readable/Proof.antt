@@ -1,10 +1,10 @@
--- `case::numbers_readable`: the four numbers together. Assumes nothing.
+-- `case_reader::numbers_readable`: the four numbers together. Assumes nothing.
 use mathlib.Core.Path.{_∙_}
 use mathlib.Core.Bool.{_&&_}
 use borrow.Author.Needs.{needs}
-use Rattle.cases.specs.Case.{numbersReadable}
-use Rattle.cases.proofs.case.numbers_readable.Statement.{statement}
-use Rattle.cases.proofs.case.numbers_readable.Tie as tie
+use Rattle.case_reader.specs.Case.{numbersReadable}
+use Rattle.case_reader.proofs.numbers_readable.Statement.{statement}
+use Rattle.case_reader.proofs.numbers_readable.Tie as tie
 
 returns : tie.Need-returns
 unfolding numbersReadable

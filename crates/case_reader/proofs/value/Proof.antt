@@ -1,10 +1,10 @@
--- `case::value`: as the part is read. Assumes nothing.
+-- `case_reader::value`: as the part is read. Assumes nothing.
 use mathlib.Core.Path.{ap, _∙_}
 use borrow.Author.Needs.{needs}
 use Rattle.lines.specs.declared.number.Number.{Number}
 use Rattle.lines.specs.Parts.{numberOf}
-use Rattle.cases.proofs.case.value.Statement.{statement}
-use Rattle.cases.proofs.case.value.Tie as tie
+use Rattle.case_reader.proofs.value.Statement.{statement}
+use Rattle.case_reader.proofs.value.Tie as tie
 
 returns : tie.Need-returns
 returns c = ap (λ (n : Number). n .value) (c .read-number .ensures ∙ ap numberOf (c .before .part .ensures))
