@@ -13,16 +13,16 @@ static const uint8_t key[CARD_KEY_BYTES] = {1};
 
 static uint8_t load(struct card_slot *table)
 {
-    return card_load(table, CARD_SLOTS, FROM, 1, CARD_TEA5, CARD_FOR_BOTH, 0, PLACE, key);
+    return card_load(table, CARD_SLOTS, FROM, 1, CARD_TEA5, CARD_FOR_BOTH, 0, PLACE, 0, 0, key);
 }
 
 static uint8_t read(struct card_slot *table)
 {
     uint64_t found;
-    uint16_t version;
+    uint16_t version, mcc, mnc;
     uint8_t algorithm, usage, side, place;
 
-    return card_read(table, CARD_SLOTS, FROM, &found, &version, &algorithm, &usage, &side, &place);
+    return card_read(table, CARD_SLOTS, FROM, &found, &version, &algorithm, &usage, &side, &place, &mcc, &mnc);
 }
 
 static uint8_t move(struct card_slot *table)
@@ -55,7 +55,7 @@ static void fill_tables(void)
     memset(tables, 0, sizeof tables);
     for (int t = 0; t < TABLES; t++)
         for (uint64_t number = 1; number < FROM; number++)
-            card_load(tables[t], CARD_SLOTS, number, 1, CARD_TEA5, CARD_FOR_BOTH, 0, PLACE, key);
+            card_load(tables[t], CARD_SLOTS, number, 1, CARD_TEA5, CARD_FOR_BOTH, 0, PLACE, 0, 0, key);
 }
 
 /* Nanoseconds a call; below 0 where one isn't done. */

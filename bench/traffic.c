@@ -13,7 +13,7 @@ static void fill_table(struct card_slot table[CARD_SLOTS], const struct input *i
     memset(table, 0, CARD_SLOTS * sizeof *table);
     for (uint64_t number = 1; number <= CARD_SLOTS; number++)
         card_load(table, CARD_SLOTS, number, (uint16_t)number, input->algorithm, CARD_FOR_BOTH, side,
-                  LAST_PLACE, input->key);
+                  LAST_PLACE, 0, 0, input->key);
 }
 
 void traffic_taken(struct traffic *traffic, uint64_t *generator, uint64_t algorithm, size_t bits, int shift)

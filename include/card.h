@@ -21,9 +21,11 @@
 #include <stddef.h>
 #include <stdint.h>
 
-/* The version of what this file declares. 2: card_record_read leaves a column too. What was compiled with an older file
-   has to be compiled again: nothing can tell at run time. */
-#define CARD_FACE 2
+/* The version of what this file declares. 2: card_record_read leaves a column too. 3: a slot has a network, so that it is
+   34 bytes long and was 30; loading, reading and writing it take both codes. What was compiled with an older file has to
+   be compiled again, and a table that was stored with one has to be loaded again: nothing can tell at run time, but that
+   32 slots of 30 bytes are mostly refused with 16. */
+#define CARD_FACE 3
 
 #ifdef __cplusplus
 extern "C" {
@@ -46,11 +48,12 @@ enum card_answer {
     CARD_DIRECTION = 12,     /* use doesn't include the direction */
     CARD_IV_SIDE = 13,       /* the initial value's side bit is wrong */
     CARD_USE_WIDER = 14,     /* asked use not within the present use, or 0 asked of a key for both */
-    CARD_RECORD_TEXT = 15,   /* record text bad; line 1..7 and column given */
+    CARD_RECORD_TEXT = 15,   /* record text bad; line 1..10 and column given */
     CARD_TABLE = 16,         /* table not 32 records, or a bad slot in it */
     CARD_RECORD_ROOM = 17,   /* record text longer than the buffer */
     CARD_PDU_CODE = 18,      /* PDU kind, state or flag unknown, or PDU above 8,288 bits */
-    CARD_PDU_PARTS = 19      /* PDU parts don't fit */
+    CARD_PDU_PARTS = 19,     /* PDU parts don't fit */
+    CARD_NETWORK = 20        /* mobile country code above 1,023 or mobile network code above 16,383 */
 };
 
 enum card_size {
@@ -59,8 +62,8 @@ enum card_size {
     CARD_IV_BYTES = 10,
     CARD_BUFFER_BYTES = 8192,   /* the longest buffer */
     CARD_KEYSTREAM_BITS = 8288, /* the most keystream of a call, its skip included */
-    CARD_RECORD_BYTES = 111,    /* the longest record */
-    CARD_LISTING_BYTES = 2048   /* room for every listing of a sheet */
+    CARD_RECORD_BYTES = 137,    /* the longest record */
+    CARD_LISTING_BYTES = 2560   /* room for every listing of a sheet */
 };
 
 enum card_algorithm { CARD_TEA5 = 5, CARD_TEA6 = 6, CARD_TEA7 = 7 };
@@ -82,7 +85,7 @@ enum card_pdu_state {
 };
 
 /* A slot. All bytes zero: empty. Filled: a version of 0..65535, an algorithm of 5..7, a use of 1..3, a side of 0..1, a
-   place of 0..79 and any key. Anything else is a bad slot, and one bad slot refuses every call on the table.
+   place of 0..79, a mobile country code of 0..1023, a mobile network code of 0..16383 and any key. Anything else is a bad slot, and one bad slot refuses every call on the table.
    Bit 0 of a byte is its most significant bit. A send needs bit `place` of the initial value equal to `side`, a receive
    needs the other value. */
 struct card_slot {
@@ -91,15 +94,17 @@ struct card_slot {
     uint8_t usage;
     uint8_t side;
     uint8_t place;
+    uint16_t mcc;
+    uint16_t mnc;
     uint8_t key[CARD_KEY_BYTES];
 };
 
 #ifdef __cplusplus
-static_assert(sizeof(struct card_slot) == 30, "a slot is 30 bytes");
-static_assert(offsetof(struct card_slot, key) == 6, "its key starts at byte 6");
+static_assert(sizeof(struct card_slot) == 34, "a slot is 34 bytes");
+static_assert(offsetof(struct card_slot, key) == 10, "its key starts at byte 10");
 #else
-_Static_assert(sizeof(struct card_slot) == 30, "a slot is 30 bytes");
-_Static_assert(offsetof(struct card_slot, key) == 6, "its key starts at byte 6");
+_Static_assert(sizeof(struct card_slot) == 34, "a slot is 34 bytes");
+_Static_assert(offsetof(struct card_slot, key) == 10, "its key starts at byte 10");
 #endif
 
 /*
@@ -108,9 +113,10 @@ _Static_assert(offsetof(struct card_slot, key) == 6, "its key starts at byte 6")
  */
 
 /* Fills the empty slot `number`. The key is copied; it decides no refusal.
-   Refused: 16, 7, 1, 10, 11, 9. */
+   Refused: 16, 7, 1, 10, 11, 20, 9. */
 uint8_t card_load(struct card_slot *table, size_t slots, uint64_t number, uint16_t version, uint64_t algorithm,
-                  uint64_t usage, uint64_t side, uint64_t place, const uint8_t key[CARD_KEY_BYTES]);
+                  uint64_t usage, uint64_t side, uint64_t place, uint64_t mcc, uint64_t mnc,
+                  const uint8_t key[CARD_KEY_BYTES]);
 
 /* Carries slot `from` to the empty slot `to`, and empties `from`. The asked use is the use in `to`, and must lie
    within the present one. CARD_KEEP keeps a use for sending or for receiving; a key for both is refused it with 14, and
@@ -125,7 +131,7 @@ uint8_t card_clear(struct card_slot *table, size_t slots, uint64_t number);
 /* Gives a filled slot's number and fields, without the key.
    Refused: 16, 7, 8. */
 uint8_t card_read(const struct card_slot *table, size_t slots, uint64_t number, uint64_t *found, uint16_t *version,
-                  uint8_t *algorithm, uint8_t *usage, uint8_t *side, uint8_t *place);
+                  uint8_t *algorithm, uint8_t *usage, uint8_t *side, uint8_t *place, uint16_t *mcc, uint16_t *mnc);
 
 /* Ciphers: bit start_bit + i of the buffer becomes itself xor keystream bit skip_bits + i, for each i below length_bits,
    and every other bit stays. The same call again brings the buffer back. `blocks` becomes the number of keystream blocks,
@@ -155,19 +161,21 @@ uint8_t card_pdu(const struct card_slot *table, size_t slots, uint64_t direction
 uint8_t card_bench(uint64_t algorithm, const uint8_t *key, size_t key_bytes, const uint8_t *iv, size_t iv_bytes,
                    uint8_t *buffer, size_t buffer_bytes, size_t length_bits, size_t *blocks);
 
-/* Reads one record, seven lines of text, from the front of a text. `shown` becomes number, version, algorithm, use,
-   side and place, `used` the bytes that the record took; what follows it is not judged. On refusal 15, `line` and
+/* Reads one record from the front of a text: of form 1, seven lines, or of form 2, ten, the first of them `form=2`.
+   `shown` becomes number, version, algorithm, use, side, place, mobile country code and mobile network code, both 0 of a
+   record of form 1, and `used` the bytes that the record took; what follows it is not judged. On refusal 15, `line` and
    `column` say where the first byte stands at which no good record can go on, both counted from 1, and all else becomes
-   zero: the line is 1..7; of a text that ends too early the column is just past its end.
+   zero: the line is 1..7, or 1..10 of form 2; of a text that ends too early the column is just past its end.
    Refused: 15. */
-uint8_t card_record_read(const uint8_t *text, size_t text_bytes, uint64_t shown[6], uint8_t key[CARD_KEY_BYTES],
+uint8_t card_record_read(const uint8_t *text, size_t text_bytes, uint64_t shown[8], uint8_t key[CARD_KEY_BYTES],
                          size_t *used, size_t *line, size_t *column);
 
-/* Writes a record to the front of a buffer, keeps the bytes after it, and leaves its length, 105 to CARD_RECORD_BYTES.
-   Refused: 7, 1, 10, 11, 17. */
+/* Writes a record of form 2 to the front of a buffer, keeps the bytes after it, and leaves its length, 124 to
+   CARD_RECORD_BYTES.
+   Refused: 7, 1, 10, 11, 20, 17. */
 uint8_t card_record_write(uint64_t number, uint16_t version, uint64_t algorithm, uint64_t usage, uint64_t side,
-                          uint64_t place, const uint8_t key[CARD_KEY_BYTES], uint8_t *buffer, size_t buffer_bytes,
-                          size_t *length);
+                          uint64_t place, uint64_t mcc, uint64_t mnc, const uint8_t key[CARD_KEY_BYTES],
+                          uint8_t *buffer, size_t buffer_bytes, size_t *length);
 
 /* Loads every record of a sheet into an empty table, one after the other, and leaves the table's listing at the front of
    the buffer: a header, a line for each filled slot without its key, and their count. Where a record is refused, the

@@ -25,7 +25,7 @@ int main(void) {
     parts.length_bits = 124;
     parts.address_bit = 10;
     parts.sdu_bit = 50;
-    printf("load: %d\n", card_load(table, CARD_SLOTS, 1, 17, CARD_TEA7, CARD_FOR_SENDING, 0, 28, key));
+    printf("load: %d\n", card_load(table, CARD_SLOTS, 1, 17, CARD_TEA7, CARD_FOR_SENDING, 0, 28, 262, 1001, key));
     send(parts);
     send(parts); /* the same call again brings the PDU back */
     parts.sdu_bit = 33;

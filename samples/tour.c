@@ -17,14 +17,16 @@ static int traffic(uint64_t direction) {
 
 int main(void) {
     uint64_t number;
-    uint16_t version;
+    uint16_t version, mcc, mnc;
     uint8_t algorithm, usage, side, place;
 
-    printf("load: %d\n", card_load(table, CARD_SLOTS, 3, 17, CARD_TEA6, CARD_FOR_SENDING, 0, 28, key));
+    printf("load: %d\n", card_load(table, CARD_SLOTS, 3, 17, CARD_TEA6, CARD_FOR_SENDING, 0, 28, 262, 1001, key));
     printf("move: %d\n", card_move(table, CARD_SLOTS, 3, 9, CARD_KEEP));
     printf("move for both: %d\n", card_move(table, CARD_SLOTS, 9, 3, CARD_FOR_BOTH));
-    printf("read: %d\n", card_read(table, CARD_SLOTS, 9, &number, &version, &algorithm, &usage, &side, &place));
-    printf("number=%d version=%d alg=TEA%d use=%d side=%d place=%d\n", (int)number, version, algorithm, usage, side, place);
+    printf("read: %d\n",
+           card_read(table, CARD_SLOTS, 9, &number, &version, &algorithm, &usage, &side, &place, &mcc, &mnc));
+    printf("number=%d version=%d alg=TEA%d use=%d side=%d place=%d", (int)number, version, algorithm, usage, side, place);
+    printf(" mcc=%d mnc=%d\n", mcc, mnc);
     iv[3] ^= 0x08; /* bit 28, the slot's place: now 1, the other side's */
     printf("receive: %d\n", traffic(CARD_RECEIVE));
     iv[3] ^= 0x08; /* 0 again, the slot's own side */

@@ -64,7 +64,7 @@ static void take_number(int i, struct outcome *outcome)
 static void make_load(const struct face *face, const struct call *call, struct outcome *outcome)
 {
     outcome->answer = face->load(lend_table(&outcome->table), outcome->table.slots, call->number, call->version,
-                                 call->algorithm, call->usage, call->side, call->place,
+                                 call->algorithm, call->usage, call->side, call->place, call->mcc, call->mnc,
                                  room_lend_to_read(KEY_ROOM, call->key.at, CARD_KEY_BYTES));
     take_table(outcome);
     take_bytes(KEY_ROOM);
@@ -87,9 +87,9 @@ static void make_read(const struct face *face, const struct call *call, struct o
 {
     outcome->answer = face->read(lend_table_to_read(&outcome->table), outcome->table.slots, call->number,
                                  lend_number(0, 8), lend_number(1, 2), lend_number(2, 1), lend_number(3, 1),
-                                 lend_number(4, 1), lend_number(5, 1));
+                                 lend_number(4, 1), lend_number(5, 1), lend_number(6, 2), lend_number(7, 2));
     take_table(outcome);
-    for (int i = 0; i < 6; i++)
+    for (int i = 0; i < 8; i++)
         take_number(i, outcome);
 }
 
@@ -139,25 +139,25 @@ static void make_plain(const struct face *face, const struct call *call, struct 
     take_number(0, outcome);
 }
 
-/* Its six shown numbers are one array; they go to the first six of the outcome, `used`, `line` and `column` after them. */
+/* Its eight shown numbers are one array; they go to the first eight of the outcome, `used`, `line` and `column` after them. */
 static void make_record_read(const struct face *face, const struct call *call, struct outcome *outcome)
 {
     outcome->answer =
-        face->record_read(lend_bytes(TEXT_ROOM, &call->text), call->text.count, lend_number(0, 6 * 8),
-                          room_lend_unset(KEY_ROOM, CARD_KEY_BYTES), lend_number(6, sizeof(size_t)),
-                          lend_number(7, sizeof(size_t)), lend_number(8, sizeof(size_t)));
+        face->record_read(lend_bytes(TEXT_ROOM, &call->text), call->text.count, lend_number(0, 8 * 8),
+                          room_lend_unset(KEY_ROOM, CARD_KEY_BYTES), lend_number(8, sizeof(size_t)),
+                          lend_number(9, sizeof(size_t)), lend_number(10, sizeof(size_t)));
     take_bytes(TEXT_ROOM);
     room_take(KEY_ROOM, outcome->key);
     room_take(FIRST_NUMBER_ROOM, outcome->numbers);
-    take_number(6, outcome);
-    take_number(7, outcome);
     take_number(8, outcome);
+    take_number(9, outcome);
+    take_number(10, outcome);
 }
 
 static void make_record_write(const struct face *face, const struct call *call, struct outcome *outcome)
 {
     outcome->answer = face->record_write(call->number, call->version, call->algorithm, call->usage, call->side,
-                                         call->place, room_lend_to_read(KEY_ROOM, call->key.at, CARD_KEY_BYTES),
+                                         call->place, call->mcc, call->mnc, room_lend_to_read(KEY_ROOM, call->key.at, CARD_KEY_BYTES),
                                          lend_buffer(&call->buffer), call->buffer.count,
                                          lend_number(0, sizeof(size_t)));
     take_bytes(KEY_ROOM);

@@ -25,13 +25,13 @@ struct call {
     enum kind kind;
     uint64_t number, to, asked; /* a move goes from `number` */
     uint16_t version;
-    uint64_t algorithm, usage, side, place;
+    uint64_t algorithm, usage, side, place, mcc, mnc;
     uint64_t direction, start, length, skip;
     uint64_t pdu_kind, state, flag, address, sdu; /* a plan's or a PDU's, whose length is `length` */
     struct bytes key, iv, text, buffer;           /* the text is a record's or a sheet's */
 };
 
-enum { MOST_NUMBERS = 9 };
+enum { MOST_NUMBERS = 11 };
 
 /* The answer, the numbers that it reported in the order of card.h, and all that may have changed. The listing of a sheet
    has no answer but its length, which is the first number. */

@@ -1,3 +1,4 @@
+#define _GNU_SOURCE
 #include "check.h"
 
 #include <string.h>
@@ -46,7 +47,9 @@ static void refused_changes_nothing(const struct call *call, const struct table 
          !kind_has_buffer(call->kind) || bytes_same(&given->buffer, &call->buffer));
     hold("a refused call reports a number",
          memcmp(given->numbers, zeros, (MOST_NUMBERS - 2) * sizeof zeros[0]) == 0);
-    hold("the line isn't 1 to 7", place_given ? line >= 1 && line <= 7 : line == 0);
+    hold("the line isn't 1 to 7, or to 10 of form 2",
+         place_given ? line >= 1 && line <= (call->text.count > 7 && memcmp(call->text.at, "form=2\n", 7) == 0 ? 10 : 7)
+                     : line == 0);
     hold("line and column name no place", place_given ? names_a_place(&call->text, line, column) : column == 0);
     hold("a refused call gives a key", memcmp(given->key, zeros, CARD_KEY_BYTES) == 0);
 }
@@ -96,13 +99,18 @@ static void pdu_as_traffic(const struct call *call, const struct table *table, c
     hold("a PDU's blocks aren't the different ones of its pieces", given->numbers[0] == blocks);
 }
 
-/* What was read is written to a buffer of the text's length, whose bytes after the record stay. */
+/* What was read is written in form 2 to a buffer that is as long as the text, and as the longest record, and whose bytes
+   after the record stay. What was of form 2 is the same text; what was of form 1 has the lines of form 2 besides. */
 static void written_as_read(const struct call *call, const struct table *table, const struct outcome *given)
 {
     static struct call write;
     static struct outcome written;
     static uint8_t expected[MOST_BYTES];
-    size_t used = given->numbers[6];
+    size_t used = given->numbers[8];
+    int old = call->text.at[0] != 'f';
+    static const char opening[] = "form=2\n", codes[] = "mcc=0\nmnc=0\n";
+    size_t key_line = 53, more = old ? strlen(opening) + strlen(codes) : 0, count = call->text.count + more;
+    uint8_t *to = expected;
 
     write.kind = RECORD_WRITE;
     write.number = given->numbers[0];
@@ -111,15 +119,22 @@ static void written_as_read(const struct call *call, const struct table *table, 
     write.usage = given->numbers[3];
     write.side = given->numbers[4];
     write.place = given->numbers[5];
+    write.mcc = given->numbers[6];
+    write.mnc = given->numbers[7];
     memcpy(write.key.at, given->key, CARD_KEY_BYTES);
-    write.buffer.count = call->text.count;
-    memset(write.buffer.at, '~', call->text.count);
-    memset(expected, '~', call->text.count);
-    memcpy(expected, call->text.at, used);
+    write.buffer.count = count;
+    memset(write.buffer.at, '~', count);
+    memset(expected, '~', count);
+    if (old)
+        to = mempcpy(to, opening, strlen(opening));
+    to = mempcpy(to, call->text.at, used - key_line);
+    if (old)
+        to = mempcpy(to, codes, strlen(codes));
+    memcpy(to, call->text.at + used - key_line, key_line);
     answer(&card_face, &write, table, &written);
     hold("a record that was read isn't written the same",
-         written.answer == CARD_DONE && written.numbers[0] == used &&
-             memcmp(written.buffer.at, expected, call->text.count) == 0);
+         written.answer == CARD_DONE && written.numbers[0] == used + more &&
+             memcmp(written.buffer.at, expected, count) == 0);
 }
 
 static void read_as_written(const struct call *call, const struct table *table, const struct outcome *given)
@@ -127,8 +142,8 @@ static void read_as_written(const struct call *call, const struct table *table, 
     static struct call read;
     static struct outcome back;
     const uint64_t shown[] = {call->number, call->version, call->algorithm,   call->usage,
-                              call->side,   call->place,   given->numbers[0], 0,
-                              0};
+                              call->side,   call->place,   call->mcc,         call->mnc,
+                              given->numbers[0], 0, 0};
 
     read.kind = RECORD_READ;
     bytes_copy(&read.text, &given->buffer);

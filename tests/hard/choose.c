@@ -90,6 +90,8 @@ struct card_slot choose_good_slot(struct source *source)
     slot.usage = (uint8_t)(1 + source_byte(source) % 3);
     slot.side = source_byte(source) % 2;
     slot.place = source_byte(source) % 80;
+    slot.mcc = (uint16_t)source_below(source, 1024);
+    slot.mnc = (uint16_t)source_below(source, 16384);
     choose_bytes(source, &key, CARD_KEY_BYTES);
     memcpy(slot.key, key.at, CARD_KEY_BYTES);
     return slot;

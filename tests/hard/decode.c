@@ -40,7 +40,8 @@ void decode_table(struct source *source, struct table *table)
 /* One byte of the table becomes any, or one of a slot at its edges or in its middle becomes one at an edge. */
 static void change_byte(struct source *source, struct table *table)
 {
-    static const uint64_t bytes[] = {0, 1, 2, 3, 4, 5, 7, 8, 79, 80, 255}, places[] = {0, 1, 2, 3, 4, 5, 6, 17, 29};
+    static const uint64_t bytes[] = {0, 1, 2, 3, 4, 5, 7, 8, 63, 64, 79, 80, 255},
+                          places[] = {0, 1, 2, 3, 4, 5, 6, 7, 8, 9, 10, 21, 33};
     size_t slots[] = {0, table->slots / 2, table->slots - 1}, size = sizeof table->at[0];
     uint8_t *at = (uint8_t *)table->at;
 
@@ -75,6 +76,8 @@ static void decode_fields(struct source *source, struct call *call)
     call->usage = choose_mostly(source, 1, 3);
     call->side = choose_mostly(source, 0, 1);
     call->place = choose_mostly(source, 0, 79);
+    call->mcc = choose_mostly(source, 0, 1023);
+    call->mnc = choose_mostly(source, 0, 16383);
     choose_bytes(source, &call->key, CARD_KEY_BYTES);
 }
 
@@ -153,7 +156,7 @@ static void decode_plain(struct source *source, struct call *call)
 
 static void decode_record_write(struct source *source, struct call *call)
 {
-    size_t bytes = source_byte(source) % 4 == 1 ? choose_buffer_count(source) : 100u + source_byte(source) % 16;
+    size_t bytes = source_byte(source) % 4 == 1 ? choose_buffer_count(source) : 122u + source_byte(source) % 20;
 
     call->number = choose_mostly(source, 1, CARD_SLOTS);
     decode_fields(source, call);

@@ -153,9 +153,13 @@ static const char shortest[] = "number=1\nversion=0\nalg=TEA5\nuse=SEND\nside=0\
                                "key=000000000000000000000000000000000000000000000000\n";
 static const char longest[] = "number=32\nversion=65535\nalg=TEA7\nuse=BOTH\nside=1\nplace=79\n"
                               "key=0123456789abcdeffedcba9876543210a0b1c2d3e4f59768\n";
+static const char new_shortest[] = "form=2\nnumber=1\nversion=0\nalg=TEA5\nuse=SEND\nside=0\nplace=0\nmcc=0\nmnc=0\n"
+                                   "key=000000000000000000000000000000000000000000000000\n";
+static const char new_longest[] = "form=2\nnumber=32\nversion=65535\nalg=TEA7\nuse=BOTH\nside=1\nplace=79\nmcc=1023\n"
+                                  "mnc=16383\nkey=0123456789abcdeffedcba9876543210a0b1c2d3e4f59768\n";
 static const char sheet[] = "number=32\nversion=17\nalg=TEA5\nuse=SEND\nside=1\nplace=7\n"
                             "key=00112233445566778899aabbccddeeff0123456789abcdef\n"
-                            "number=1\nversion=65530\nalg=TEA7\nuse=BOTH\nside=0\nplace=79\n"
+                            "form=2\nnumber=1\nversion=65530\nalg=TEA7\nuse=BOTH\nside=0\nplace=79\nmcc=262\nmnc=16383\n"
                             "key=fedcba98765432100123456789abcdeff0e1d2c3b4a59687\n";
 
 /* A text cut at each place, and with each byte from a place on changed to every other. */
@@ -182,6 +186,8 @@ static void every_byte_of_a_text(void)
 {
     every_byte_of(RECORD_READ, shortest, 0);
     every_byte_of(RECORD_READ, longest, 0);
+    every_byte_of(RECORD_READ, new_shortest, 0);
+    every_byte_of(RECORD_READ, new_longest, 0);
     every_byte_of(SLOTLIST, sheet, (size_t)(strstr(sheet, "number=1\n") - sheet));
 }
 

@@ -48,8 +48,8 @@ static void print_table(const struct table *table)
 
         if (slot->algorithm == 0 && slot->usage == 0)
             continue;
-        fprintf(stderr, "  slot %zu: version=%u algorithm=%u usage=%u side=%u place=%u\n", i + 1, slot->version,
-                slot->algorithm, slot->usage, slot->side, slot->place);
+        fprintf(stderr, "  slot %zu: version=%u algorithm=%u usage=%u side=%u place=%u mcc=%u mnc=%u\n", i + 1,
+                slot->version, slot->algorithm, slot->usage, slot->side, slot->place, slot->mcc, slot->mnc);
         print_bytes("key", slot->key, sizeof slot->key);
     }
 }
@@ -64,7 +64,7 @@ static void print_numbers(const struct call *call)
         {"algorithm", call->algorithm}, {"usage", call->usage},   {"side", call->side},   {"place", call->place},
         {"direction", call->direction}, {"start", call->start},   {"length", call->length}, {"skip", call->skip},
         {"kind", call->pdu_kind},       {"state", call->state},   {"flag", call->flag},   {"address", call->address},
-        {"sdu", call->sdu},
+        {"sdu", call->sdu},             {"mcc", call->mcc},       {"mnc", call->mnc},
     };
 
     fprintf(stderr, "  %s:", kind_names[call->kind]);

@@ -21,7 +21,7 @@ struct line {
     struct word equals, end;
 };
 
-enum { MOST_RECORDS = 40, MOST_LINES = 7 * MOST_RECORDS + 4 };
+enum { MOST_RECORDS = 40, MOST_LINES = 10 * MOST_RECORDS + 4 };
 
 static struct line lines[MOST_LINES];
 static size_t line_count;
@@ -46,13 +46,20 @@ static void add_record(struct source *source, uint64_t number)
     static const char *const uses[] = {"SEND", "RECV", "BOTH"};
     static struct bytes key;
     char digits[2 * CARD_KEY_BYTES + 1];
+    int two = source_byte(source) % 4 != 1;
 
+    if (two)
+        add_line("form", "2");
     add_line("number", "%d", (int)number);
     add_line("version", "%d", choose_version(source));
     add_line("alg", "TEA%d", 5 + source_byte(source) % 3);
     add_line("use", "%s", PICK(source, uses));
     add_line("side", "%d", source_byte(source) % 2);
     add_line("place", "%d", source_byte(source) % 80);
+    if (two) {
+        add_line("mcc", "%d", (int)source_below(source, 1024));
+        add_line("mnc", "%d", (int)source_below(source, 16384));
+    }
     choose_bytes(source, &key, CARD_KEY_BYTES);
     for (int i = 0; i < CARD_KEY_BYTES; i++) {
         digits[2 * i] = "0123456789abcdef"[key.at[i] / 16];
@@ -74,6 +81,9 @@ static const struct {
     {"use", "send Send SENT SEN SENDS RECEIVE REC RECD BOTHS BOT SECV REND BOND NONE 1"},
     {"side", "0 1 2 9 00 01 10 11 -1 256 A"},
     {"place", "0 7 8 9 79 80 81 89 90 99 100 790 00 07 079 -1 256 335 4294967296 18446744073709551616"},
+    {"form", "1 2 3 02 22 0 two"},
+    {"mcc", "0 9 10 1023 1024 1025 1030 1100 2000 9999 10230 00 07 -1 65536 4294967296 18446744073709551616"},
+    {"mnc", "0 9 10 16383 16384 16390 16400 17000 20000 99999 163830 00 07 -1 65536 4294967296 18446744073709551616"},
     {"", "0 00 01 1 2 3 7 32 33 79 80 100 65535 65536 655350 99999999999999999999 -1 +1 1.0 0x10 TEA4 TEA5 TEA8 TEA77 "
          "tea6 SENDS send RECV BOT"},
 };
@@ -135,7 +145,7 @@ static void put_before(char *text, size_t room, const char *what)
 
 static void damage_line(struct source *source, struct line *line)
 {
-    static const char *const names[] = {"number", "version", "alg", "use",  "side", "place", "key",  "form",
+    static const char *const names[] = {"number", "version", "alg", "use",  "side", "place", "key",  "form", "mcc",  "mnc",
                                         "Number", "KEY",     "",    " key", "no",   "usage", "keys", "algorithm"};
     static const struct word equals[] = {WORD(" ="), WORD("= "), WORD(" = "), WORD("\t="), WORD("=\t"), WORD("  =  "),
                                          WORD(""),   WORD("=="), WORD(":"),   WORD("=+"),  WORD("=-")};
@@ -156,7 +166,7 @@ static void damage_line(struct source *source, struct line *line)
         other_case(line->value);
         break;
     case 8: sprintf(line->value, "%llu", (unsigned long long)choose_mostly(source, 0, 79)); break;
-    case 9: pick_value(source, other_values[6].values, line->value); break;
+    case 9: pick_value(source, other_values[9].values, line->value); break;
     case 10:
     case 11: line->end = PICK(source, ends); break;
     default: other_value(source, line);

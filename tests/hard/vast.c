@@ -20,9 +20,9 @@ struct made {
     struct card_slot table[CARD_SLOTS];
     uint8_t key[CARD_KEY_BYTES], iv[CARD_IV_BYTES], buffer[64], front[FRONT_BYTES];
     uint8_t listing[CARD_LISTING_BYTES];
-    uint64_t shown[6], found;
+    uint64_t shown[8], found;
     size_t numbers[3];
-    uint16_t version;
+    uint16_t version, network[2];
     uint8_t fields[4];
 };
 
@@ -91,7 +91,7 @@ static void pdu_buffer(const struct face *face, struct made *m)
 
 static void load_table(const struct face *face, struct made *m)
 {
-    m->answer = face->load((struct card_slot *)vast, CUT + 32, 2, 0, 5, 1, 0, 0, m->key);
+    m->answer = face->load((struct card_slot *)vast, CUT + 32, 2, 0, 5, 1, 0, 0, 0, 0, m->key);
 }
 
 static void move_table(const struct face *face, struct made *m)
@@ -107,7 +107,7 @@ static void clear_table(const struct face *face, struct made *m)
 static void read_table(const struct face *face, struct made *m)
 {
     m->answer = face->read((struct card_slot *)vast, CUT + 32, 1, &m->found, &m->version, &m->fields[0], &m->fields[1],
-                           &m->fields[2], &m->fields[3]);
+                           &m->fields[2], &m->fields[3], &m->network[0], &m->network[1]);
 }
 
 static void record_read(const struct face *face, struct made *m)
@@ -119,7 +119,7 @@ static void record_read(const struct face *face, struct made *m)
 
 static void record_write(const struct face *face, struct made *m)
 {
-    m->answer = face->record_write(1, 0, 5, 1, 0, 0, m->key, vast, CUT, m->numbers);
+    m->answer = face->record_write(1, 0, 5, 1, 0, 0, 0, 0, m->key, vast, CUT, m->numbers);
 }
 
 static void slotlist_sheet(const struct face *face, struct made *m)

@@ -13,9 +13,9 @@ enum { PLACE = 28 };
 static struct card_slot chosen[CARD_SLOTS], table[CARD_SLOTS];
 static uint8_t key[CARD_KEY_BYTES], iv[CARD_IV_BYTES], read_key[CARD_KEY_BYTES];
 static uint8_t text[CARD_RECORD_BYTES + 1], sheet[CARD_SLOTS * CARD_RECORD_BYTES + 1], buffer[CARD_BUFFER_BYTES];
-static uint64_t number, target, other, direction, shown[6], found;
+static uint64_t number, target, other, direction, shown[8], found;
 static size_t length, start, skip, blocks, used, line, column;
-static uint16_t version;
+static uint16_t version, mcc, mnc;
 static uint8_t algorithm, usage, side, place;
 static size_t text_bytes, sheet_bytes;
 static struct card_pdu_parts pdu;
@@ -29,7 +29,7 @@ static void random_bytes(uint64_t *generator, uint8_t *bytes, size_t count)
 static uint8_t make_load(void)
 {
     memset(&table[number - 1], 0, sizeof table[0]);
-    return card_load(table, CARD_SLOTS, number, 1, algorithm, CARD_FOR_BOTH, 0, PLACE, key);
+    return card_load(table, CARD_SLOTS, number, 1, algorithm, CARD_FOR_BOTH, 0, PLACE, 0, 0, key);
 }
 
 static uint8_t make_move(void)
@@ -44,7 +44,7 @@ static uint8_t make_clear(void)
 
 static uint8_t make_read(void)
 {
-    return card_read(table, CARD_SLOTS, number, &found, &version, &algorithm, &usage, &side, &place);
+    return card_read(table, CARD_SLOTS, number, &found, &version, &algorithm, &usage, &side, &place, &mcc, &mnc);
 }
 
 static uint8_t make_traffic(void)
@@ -75,7 +75,7 @@ static uint8_t make_record_read(void)
 
 static uint8_t make_record_write(void)
 {
-    return card_record_write(number, 1, algorithm, CARD_FOR_BOTH, 0, PLACE, key, buffer, sizeof buffer, &used);
+    return card_record_write(number, 1, algorithm, CARD_FOR_BOTH, 0, PLACE, 0, 0, key, buffer, sizeof buffer, &used);
 }
 
 static uint8_t make_slotlist(void)
@@ -91,7 +91,7 @@ static uint8_t slotlist_without_room(void)
 /* Into a slot that is filled. */
 static uint8_t refused_load(void)
 {
-    return card_load(table, CARD_SLOTS, number, 1, algorithm, CARD_FOR_BOTH, 0, PLACE, key);
+    return card_load(table, CARD_SLOTS, number, 1, algorithm, CARD_FOR_BOTH, 0, PLACE, 0, 0, key);
 }
 
 static uint8_t refused_move(void)
@@ -107,7 +107,7 @@ static uint8_t refused_clear(void)
 
 static uint8_t refused_read(void)
 {
-    return card_read(table, CARD_SLOTS, target, &found, &version, &algorithm, &usage, &side, &place);
+    return card_read(table, CARD_SLOTS, target, &found, &version, &algorithm, &usage, &side, &place, &mcc, &mnc);
 }
 
 /* Of a slot that there isn't. */
@@ -290,7 +290,7 @@ static void choose_table(uint64_t *generator)
     for (uint64_t i = 1; i <= CARD_SLOTS; i++) {
         if (i == target)
             continue;
-        chosen[i - 1] = (struct card_slot){1, algorithm, CARD_FOR_BOTH, 0, PLACE, {0}};
+        chosen[i - 1] = (struct card_slot){1, algorithm, CARD_FOR_BOTH, 0, PLACE, 0, 0, {0}};
         random_bytes(generator, chosen[i - 1].key, CARD_KEY_BYTES);
     }
     memcpy(chosen[number - 1].key, key, CARD_KEY_BYTES);

@@ -3,11 +3,11 @@
 #include <stdio.h>
 #include <string.h>
 
-static const char record[] = "number=3\nversion=17\nalg=TEA6\nuse=SEND\nside=0\nplace=28\n"
+static const char record[] = "form=2\nnumber=3\nversion=17\nalg=TEA6\nuse=SEND\nside=0\nplace=28\nmcc=0\nmnc=0\n"
                              "key=000000000000000000000000000000000000000000000001\n";
 
 int main(void) {
-    uint64_t shown[6];
+    uint64_t shown[8];
     uint8_t key[CARD_KEY_BYTES], written[CARD_RECORD_BYTES], keystream[40] = {0};
     const uint8_t iv[CARD_IV_BYTES] = {0};
     uint8_t listing[CARD_LISTING_BYTES];
@@ -16,11 +16,11 @@ int main(void) {
 
     printf("record read: %d\n", card_record_read((const uint8_t *)record, strlen(record), shown, key, &used, &line,
                                                  &column));
-    for (int i = 0; i < 6; i++) printf("%d ", (int)shown[i]);
+    for (int i = 0; i < 8; i++) printf("%d ", (int)shown[i]);
     printf("used %s, line %d, column %d\n", used == strlen(record) ? "all" : "not all", (int)line, (int)column);
 
     printf("record write: %d\n", card_record_write(shown[0], (uint16_t)shown[1], shown[2], shown[3], shown[4], shown[5],
-                                                   key, written, sizeof written, &length));
+                                                   shown[6], shown[7], key, written, sizeof written, &length));
     printf("%s\n", length == used && memcmp(written, record, length) == 0 ? "the same" : "another");
 
     length = card_slotlist((const uint8_t *)record, strlen(record), listing, sizeof listing);

@@ -70,7 +70,7 @@ pub enum PduState {
 /// ```
 /// use card::{Algorithm, Fields, Refusal, Table, Use};
 ///
-/// let fields = Fields { version: 0, algorithm: Algorithm::Tea5, usage: Use::Send, side: 0, place: 0 };
+/// let fields = Fields { version: 0, algorithm: Algorithm::Tea5, usage: Use::Send, side: 0, place: 0, mcc: 0, mnc: 0 };
 /// let mut table = Table::new();
 /// table.load(1, fields, &[7; 24])?;
 /// assert_eq!(table.move_slot(1, 2, Use::Both), Err(Refusal::UseWider));
@@ -90,7 +90,7 @@ pub struct Code<T> {
 /// ```
 /// use card::{Algorithm, Fields, Refusal, Table, Use, KEEP};
 ///
-/// let fields = Fields { version: 0, algorithm: Algorithm::Tea5, usage: Use::Both, side: 0, place: 0 };
+/// let fields = Fields { version: 0, algorithm: Algorithm::Tea5, usage: Use::Both, side: 0, place: 0, mcc: 0, mnc: 0 };
 /// let mut table = Table::new();
 /// table.load(1, fields, &[7; 24])?;
 /// assert_eq!(table.move_slot(1, 2, KEEP), Err(Refusal::UseWider));

@@ -22,6 +22,8 @@ extern "C" {
         usage: u64,
         side: u64,
         place: u64,
+        mcc: u64,
+        mnc: u64,
         key: *const u8,
     ) -> u8;
 
@@ -39,6 +41,8 @@ extern "C" {
         usage: *mut u8,
         side: *mut u8,
         place: *mut u8,
+        mcc: *mut u16,
+        mnc: *mut u16,
     ) -> u8;
 
     fn card_traffic(
@@ -116,6 +120,8 @@ extern "C" {
         usage: u64,
         side: u64,
         place: u64,
+        mcc: u64,
+        mnc: u64,
         key: *const u8,
         buffer: *mut u8,
         buffer_bytes: usize,
@@ -165,6 +171,8 @@ pub fn load(
             asked.usage,
             asked.side,
             asked.place,
+            asked.mcc,
+            asked.mnc,
             key.as_ptr(),
         )
     };
@@ -188,7 +196,7 @@ pub fn clear(table: &mut [Slot], number: u64) -> Result<(), Refusal> {
 
 pub fn read(table: &[Slot], number: u64) -> Result<Fields, Refusal> {
     let mut found = 0;
-    let mut version = 0;
+    let [mut version, mut mcc, mut mnc] = [0; 3];
     let [mut algorithm, mut usage, mut side, mut place] = [0; 4];
     // Safety: each pointer is good for what it points to, and the library keeps none of them.
     let answer = unsafe {
@@ -202,6 +210,8 @@ pub fn read(table: &[Slot], number: u64) -> Result<Fields, Refusal> {
             &mut usage,
             &mut side,
             &mut place,
+            &mut mcc,
+            &mut mnc,
         )
     };
     wipe::stack_below();
@@ -212,6 +222,8 @@ pub fn read(table: &[Slot], number: u64) -> Result<Fields, Refusal> {
         usage.into(),
         side.into(),
         place.into(),
+        mcc.into(),
+        mnc.into(),
     ])
 }
 
@@ -332,7 +344,7 @@ pub fn plain(
 }
 
 pub fn record_read(text: &[u8]) -> Result<Record, Refusal> {
-    let mut shown = [0; 6];
+    let mut shown = [0; 8];
     let mut key = Key::from([0; KEY_BYTES]);
     let mut used = 0;
     let mut line = 0;
@@ -353,6 +365,7 @@ pub fn record_read(text: &[u8]) -> Result<Record, Refusal> {
     let [number, fields @ ..] = shown;
     match answered(answer, ()) {
         Err(Refusal::RecordText { .. }) => Err(Refusal::RecordText {
+            form: if text.first() == Some(&b'f') { 2 } else { 1 },
             line: line as u8,
             column: column as u8,
         }),
@@ -382,6 +395,8 @@ pub fn record_write(
             asked.usage,
             asked.side,
             asked.place,
+            asked.mcc,
+            asked.mnc,
             key.as_ptr(),
             buffer.as_mut_ptr(),
             buffer.len(),
@@ -448,19 +463,23 @@ mod tests {
         usage: 1,
         side: 1,
         place: 28,
+        mcc: 262,
+        mnc: 1001,
         key: [0xab; KEY_BYTES],
     };
 
     #[test]
     fn a_slot_lies_in_memory_as_in_c() {
-        assert_eq!(size_of::<Slot>(), 30);
+        assert_eq!(size_of::<Slot>(), 34);
         assert_eq!(align_of::<Slot>(), 2);
         assert_eq!(offset_of!(Slot, version), 0);
         assert_eq!(offset_of!(Slot, algorithm), 2);
         assert_eq!(offset_of!(Slot, usage), 3);
         assert_eq!(offset_of!(Slot, side), 4);
         assert_eq!(offset_of!(Slot, place), 5);
-        assert_eq!(offset_of!(Slot, key), 6);
+        assert_eq!(offset_of!(Slot, mcc), 6);
+        assert_eq!(offset_of!(Slot, mnc), 8);
+        assert_eq!(offset_of!(Slot, key), 10);
     }
 
     /// The bytes at a value's place after it was dropped.
@@ -476,7 +495,7 @@ mod tests {
 
     #[test]
     fn dropped_slots_are_zeros() {
-        assert_eq!(dropped(Slots([FILLED; SLOTS])), [0; 960]);
+        assert_eq!(dropped(Slots([FILLED; SLOTS])), [0; 1088]);
     }
 
     #[test]
@@ -493,6 +512,8 @@ mod tests {
             usage: 1,
             side: 0,
             place: 0,
+            mcc: 0,
+            mnc: 0,
         };
         let span = Span {
             start: 0,

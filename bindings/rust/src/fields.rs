@@ -15,6 +15,10 @@ pub struct Fields {
     pub side: u8,
     /// 0 to 79: the bit of the initial value that marks the direction.
     pub place: u8,
+    /// The network's mobile country code, 0 to 1,023.
+    pub mcc: u16,
+    /// The network's mobile network code, 0 to 16,383.
+    pub mnc: u16,
 }
 
 /// The same as numbers that an engineer typed, good or not. The card tests them.
@@ -22,7 +26,7 @@ pub struct Fields {
 /// ```
 /// use card::{Asked, Refusal, Table};
 ///
-/// let asked = Asked { version: 17, algorithm: 6, usage: 1, side: 0, place: 80 };
+/// let asked = Asked { version: 17, algorithm: 6, usage: 1, side: 0, place: 80, mcc: 0, mnc: 0 };
 /// assert_eq!(Table::new().load(3, asked, &[7; 24]), Err(Refusal::SideOrPlace));
 /// ```
 #[derive(Clone, Copy, Debug, PartialEq, Eq, Hash)]
@@ -37,6 +41,10 @@ pub struct Asked {
     pub side: u64,
     /// 0 to 79; any other number is refused with 11.
     pub place: u64,
+    /// 0 to 1,023; any other number is refused with 20.
+    pub mcc: u64,
+    /// 0 to 16,383; any other number is refused with 20.
+    pub mnc: u64,
 }
 
 impl From<Fields> for Asked {
@@ -47,21 +55,25 @@ impl From<Fields> for Asked {
             usage: fields.usage.into(),
             side: fields.side.into(),
             place: fields.place.into(),
+            mcc: fields.mcc.into(),
+            mnc: fields.mnc.into(),
         }
     }
 }
 
 impl Fields {
-    /// Version, algorithm, use, side and place as a call that was done reports them. Its numbers are
+    /// Version, algorithm, use, side, place and network as a call that was done reports them. Its numbers are
     /// good ones, so this gives no refusal.
-    pub(crate) fn reported(numbers: [u64; 5]) -> Result<Fields, Refusal> {
-        let [version, algorithm, usage, side, place] = numbers;
+    pub(crate) fn reported(numbers: [u64; 7]) -> Result<Fields, Refusal> {
+        let [version, algorithm, usage, side, place, mcc, mnc] = numbers;
         Ok(Fields {
             version: version as u16,
             algorithm: algorithm.try_into()?,
             usage: usage.try_into()?,
             side: side as u8,
             place: place as u8,
+            mcc: mcc as u16,
+            mnc: mnc as u16,
         })
     }
 }

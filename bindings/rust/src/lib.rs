@@ -42,6 +42,6 @@ pub const BUFFER_BYTES: usize = 8192;
 /// The most keystream bits of a call, its skip included.
 pub const KEYSTREAM_BITS: usize = 8288;
 /// The longest record.
-pub const RECORD_BYTES: usize = 111;
+pub const RECORD_BYTES: usize = 137;
 /// Room for every listing of a sheet.
-pub const LISTING_BYTES: usize = 2048;
+pub const LISTING_BYTES: usize = 2560;

@@ -15,7 +15,7 @@ pub struct Record {
     pub length: usize,
 }
 
-/// Reads one record, seven lines, from the front of a text. What follows it is not judged.
+/// Reads one record of form 1 or 2 from the front of a text; form 1 has no network, and gives 0 for both codes. What follows it is not judged.
 ///
 /// Refused: 15, with line and column of the first byte at which no good record can go on;
 /// [`Refusal::shown_in`] points at it.
@@ -37,24 +37,24 @@ pub struct Record {
 ///
 /// assert!(loaded(include_bytes!("../../../samples/keys.txt")).is_ok());
 /// let refusal = loaded(include_bytes!("../../../samples/damaged.txt")).unwrap_err();
-/// assert_eq!(refusal, Refusal::RecordText { line: 6, column: 8 });
+/// assert_eq!(refusal, Refusal::RecordText { form: 1, line: 6, column: 8 });
 /// ```
 pub fn record_read(text: &[u8]) -> Result<Record, Refusal> {
     ffi::record_read(text)
 }
 
-/// Writes a record to the front of a buffer, keeps the bytes after it and gives its length, 105 to
+/// Writes a record of form 2 to the front of a buffer, keeps the bytes after it and gives its length, 124 to
 /// [`RECORD_BYTES`](crate::RECORD_BYTES).
 ///
-/// Refused: 7, 1, 10, 11, 17.
+/// Refused: 7, 1, 10, 11, 20, 17.
 ///
 /// ```
 /// use card::{record_write, Algorithm, Fields, Use, RECORD_BYTES};
 ///
-/// let fields = Fields { version: 9, algorithm: Algorithm::Tea5, usage: Use::Both, side: 1, place: 28 };
+/// let fields = Fields { version: 9, algorithm: Algorithm::Tea5, usage: Use::Both, side: 1, place: 28, mcc: 262, mnc: 1001 };
 /// let mut buffer = [0; RECORD_BYTES];
 /// let length = record_write(4, fields, &[0xab; 24], &mut buffer)?;
-/// assert!(buffer[..length].starts_with(b"number=4\nversion=9\nalg=TEA5\nuse=BOTH\n"));
+/// assert!(buffer[..length].starts_with(b"form=2\nnumber=4\nversion=9\nalg=TEA5\nuse=BOTH\n"));
 /// # Ok::<(), card::Refusal>(())
 /// ```
 pub fn record_write(
@@ -73,7 +73,7 @@ pub fn record_write(
 /// use card::slotlist;
 ///
 /// let listing = slotlist(include_bytes!("../../../samples/keys.txt"));
-/// assert!(listing.starts_with("table=32\nnumber=1 version=17 alg=TEA5 use=BOTH side=0 place=28\n"));
+/// assert!(listing.starts_with("table=32\nnumber=1 version=17 alg=TEA5 use=BOTH side=0 place=28 mcc=0 mnc=0\n"));
 /// assert!(listing.ends_with("filled=4\n"));
 /// let refused = slotlist(include_bytes!("../../../samples/damaged.txt"));
 /// assert_eq!(refused, "refused=15 record=2 line=6 column=8\n");

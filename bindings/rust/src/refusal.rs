@@ -46,7 +46,9 @@ pub enum Refusal {
     UseWider,
     /// 15: record text bad.
     RecordText {
-        /// The first line that is wrong or cut short, 1 to 7.
+        /// The form of the record, by the text's first byte: 2, or 1.
+        form: u8,
+        /// The first line that is wrong or cut short, 1 to 7, or to 10 of form 2.
         line: u8,
         /// The byte of that line, counted from 1, at which no good record can go on; just past the end of a
         /// text that ends too early.
@@ -60,12 +62,14 @@ pub enum Refusal {
     PduCode,
     /// 19: PDU parts don't fit.
     PduParts,
+    /// 20: mobile country code above 1,023 or mobile network code above 16,383.
+    Network,
     /// A number that isn't listed here: the library is newer than these bindings.
     Unlisted(u8),
 }
 
 /// The refusals from 1 on.
-const LISTED: [Refusal; 19] = [
+const LISTED: [Refusal; 20] = [
     Refusal::Algorithm,
     Refusal::BenchKey,
     Refusal::IvSize,
@@ -80,15 +84,20 @@ const LISTED: [Refusal; 19] = [
     Refusal::Direction,
     Refusal::IvSide,
     Refusal::UseWider,
-    Refusal::RecordText { line: 0, column: 0 },
+    Refusal::RecordText {
+        form: 0,
+        line: 0,
+        column: 0,
+    },
     Refusal::Table,
     Refusal::RecordRoom,
     Refusal::PduCode,
     Refusal::PduParts,
+    Refusal::Network,
 ];
 
 /// What is wrong and what to look at, from refusal 1 on. Refusal 15 says more, by its line and column.
-const SENTENCES: [&str; 19] = [
+const SENTENCES: [&str; 20] = [
     "the algorithm isn't 5, 6 or 7; look at the algorithm that was asked for",
     "the bench key isn't 24 bytes; look at how long the key is",
     "the initial value isn't 10 bytes; look at how long it is",
@@ -105,19 +114,23 @@ const SENTENCES: [&str; 19] = [
     "the asked use isn't within the key's present use, or it is 0 and the key is for both; look at the slot's use, which a move can narrow and never widen, and ask 3 where a key for both is to stay one",
     "a line of the record is wrong or cut short; look at that line",
     "the table isn't 32 slots, or one of them is bad; look for a field out of range, or an empty slot with a byte that isn't zero",
-    "the record is longer than the buffer; look at the buffer's length: 111 bytes hold any record",
+    "the record is longer than the buffer; look at the buffer's length: 137 bytes hold any record",
     "the PDU's kind, state or flag is unknown, or the PDU is above 8,288 bits; look at these four numbers",
     "the PDU's parts don't fit; look at its length, and at where its address and its DM-SDU start",
+    "the mobile country code is above 1,023 or the mobile network code above 16,383; look at these two numbers",
 ];
 
-/// What the lines of a record should be, from line 1 on.
-const LINES: [&str; 7] = [
+/// What the lines of a record of form 2 should be, from line 1 on.
+const LINES: [&str; 10] = [
+    "form=2",
     "number= and 1 to 32",
     "version= and 0 to 65535",
     "alg= and TEA5, TEA6 or TEA7",
     "use= and SEND, RECV or BOTH",
     "side= and 0 or 1",
     "place= and 0 to 79",
+    "mcc= and 0 to 1023",
+    "mnc= and 0 to 16383",
     "key= and 48 lower-case hex digits",
 ];
 
@@ -144,6 +157,7 @@ impl Refusal {
             Refusal::RecordRoom => 17,
             Refusal::PduCode => 18,
             Refusal::PduParts => 19,
+            Refusal::Network => 20,
             Refusal::Unlisted(number) => number,
         }
     }
@@ -157,7 +171,7 @@ impl Refusal {
     /// assert!(shown.ends_with("\nversion=65536\n            ^"));
     /// ```
     pub fn shown_in(self, text: &[u8]) -> String {
-        let Refusal::RecordText { line, column } = self else {
+        let Refusal::RecordText { line, column, .. } = self else {
             return self.to_string();
         };
         let mut lines = text.split(|byte| *byte == b'\n');
@@ -181,7 +195,9 @@ impl fmt::Display for Refusal {
         let number = self.number();
         write!(f, "refused with {number}: ")?;
         match self {
-            Refusal::RecordText { line, column } => write_line_sentence(f, *line, *column),
+            Refusal::RecordText { form, line, column } => {
+                write_line_sentence(f, *form, *line, *column)
+            }
             Refusal::Unlisted(_) => f.write_str(
                 "this number is newer than the bindings; look it up in the library's card.h",
             ),
@@ -190,15 +206,24 @@ impl fmt::Display for Refusal {
     }
 }
 
-fn write_line_sentence(f: &mut fmt::Formatter, line: u8, column: u8) -> fmt::Result {
-    let place = usize::from(line).checked_sub(1);
-    let good = place
-        .and_then(|place| LINES.get(place))
-        .unwrap_or(&"1 to 7");
+fn write_line_sentence(f: &mut fmt::Formatter, form: u8, line: u8, column: u8) -> fmt::Result {
+    let good = good_line(form, line).unwrap_or("1 to 10");
     write!(
         f,
         "line {line} of the record is wrong or cut short at column {column}; look there: the line should be {good}"
     )
+}
+
+/// What a line of a record should be. Form 1 lacks the first line of form 2 and those of the network.
+fn good_line(form: u8, line: u8) -> Option<&'static str> {
+    let place = usize::from(line).checked_sub(1)?;
+    match (form, place) {
+        (2, place) => LINES.get(place),
+        (_, 0..=5) => LINES.get(place + 1),
+        (_, 6) => LINES.last(),
+        _ => None,
+    }
+    .copied()
 }
 
 /// The longest line but for the key's, `version=65535`, and the most that is shown of one.
@@ -235,7 +260,7 @@ mod tests {
             let refusal = Refusal::answered(answer).unwrap();
             assert_eq!(refusal.number(), answer);
             let listed = !matches!(refusal, Refusal::Unlisted(_));
-            assert_eq!(listed, answer <= 19);
+            assert_eq!(listed, answer <= 20);
         }
     }
 }

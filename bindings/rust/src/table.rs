@@ -20,6 +20,10 @@ pub struct Slot {
     pub side: u8,
     /// 0 to 79.
     pub place: u8,
+    /// 0 to 1,023.
+    pub mcc: u16,
+    /// 0 to 16,383.
+    pub mnc: u16,
     /// The key, which `Debug` doesn't print.
     pub key: [u8; KEY_BYTES],
 }
@@ -32,6 +36,8 @@ impl Slot {
         usage: 0,
         side: 0,
         place: 0,
+        mcc: 0,
+        mnc: 0,
         key: [0; KEY_BYTES],
     };
 }
@@ -44,6 +50,8 @@ impl fmt::Debug for Slot {
             .field("usage", &self.usage)
             .field("side", &self.side)
             .field("place", &self.place)
+            .field("mcc", &self.mcc)
+            .field("mnc", &self.mnc)
             .finish_non_exhaustive()
     }
 }
@@ -144,7 +152,7 @@ impl Table {
     /// ```
     /// use card::{Algorithm, Direction, Fields, Pdu, PduKind, PduState, Table, Use};
     ///
-    /// let fields = Fields { version: 0, algorithm: Algorithm::Tea7, usage: Use::Send, side: 0, place: 0 };
+    /// let fields = Fields { version: 0, algorithm: Algorithm::Tea7, usage: Use::Send, side: 0, place: 0, mcc: 262, mnc: 1001 };
     /// let mut table = Table::new();
     /// table.load(1, fields, &[7; 24])?;
     /// let pdu = Pdu {

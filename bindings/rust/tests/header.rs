@@ -20,7 +20,7 @@ fn constants() -> BTreeMap<&'static str, u64> {
     named.filter_map(constant).collect()
 }
 
-const REFUSALS: [(&str, Refusal); 19] = [
+const REFUSALS: [(&str, Refusal); 20] = [
     ("ALGORITHM", Refusal::Algorithm),
     ("BENCH_KEY", Refusal::BenchKey),
     ("IV_SIZE", Refusal::IvSize),
@@ -35,11 +35,12 @@ const REFUSALS: [(&str, Refusal); 19] = [
     ("DIRECTION", Refusal::Direction),
     ("IV_SIDE", Refusal::IvSide),
     ("USE_WIDER", Refusal::UseWider),
-    ("RECORD_TEXT", Refusal::RecordText { line: 1, column: 1 }),
+    ("RECORD_TEXT", Refusal::RecordText { form: 1, line: 1, column: 1 }),
     ("TABLE", Refusal::Table),
     ("RECORD_ROOM", Refusal::RecordRoom),
     ("PDU_CODE", Refusal::PduCode),
     ("PDU_PARTS", Refusal::PduParts),
+    ("NETWORK", Refusal::Network),
 ];
 
 #[test]

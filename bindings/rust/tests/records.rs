@@ -15,6 +15,19 @@ place=28
 key=000000000000000000000000000000000000000000000001
 ";
 
+/// The same in form 2, as it is written.
+const NEW_TEXT: &[u8] = b"form=2
+number=3
+version=17
+alg=TEA6
+use=SEND
+side=0
+place=28
+mcc=0
+mnc=0
+key=000000000000000000000000000000000000000000000001
+";
+
 /// The card reads a text as the second program does.
 fn same(text: &[u8]) {
     let expected = second::records::read(text);
@@ -29,7 +42,9 @@ fn same(text: &[u8]) {
         }
         Err(refusal) => {
             let (line, column) = (expected.line as u8, expected.column as u8);
-            assert_eq!(refusal, Refusal::RecordText { line, column }, "{text:?}");
+            let form = if text.starts_with(b"f") { 2 } else { 1 };
+            let told = Refusal::RecordText { form, line, column };
+            assert_eq!(refusal, told, "{text:?}");
             assert_eq!(u64::from(refusal.number()), expected.refusal);
         }
     }
@@ -45,15 +60,21 @@ fn the_record_of_document_01_reads_and_writes_back() {
         usage: Use::Send,
         side: 0,
         place: 28,
+        mcc: 0,
+        mnc: 0,
     };
     assert_eq!((record.number, record.fields), (3, expected));
 
-    for room in [TEXT.len(), RECORD_BYTES, 200] {
+    same(NEW_TEXT);
+    let new = record_read(NEW_TEXT).unwrap();
+    assert_eq!((new.number, new.fields), (3, expected));
+
+    for room in [NEW_TEXT.len(), RECORD_BYTES, 200] {
         let mut buffer = bytes(room);
         let length = record_write(record.number, record.fields, &record.key, &mut buffer);
-        assert_eq!(length, Ok(TEXT.len()));
-        assert_eq!(&buffer[..TEXT.len()], TEXT);
-        assert_eq!(buffer[TEXT.len()..], bytes(room)[TEXT.len()..]);
+        assert_eq!(length, Ok(NEW_TEXT.len()));
+        assert_eq!(&buffer[..NEW_TEXT.len()], NEW_TEXT);
+        assert_eq!(buffer[NEW_TEXT.len()..], bytes(room)[NEW_TEXT.len()..]);
     }
 }
 
@@ -66,34 +87,44 @@ fn what_follows_a_record_is_not_judged() {
 
 #[test]
 fn texts_that_are_cut_short_have_line_and_column() {
-    for length in 0..TEXT.len() {
-        assert!(record_read(&TEXT[..length]).is_err());
-        same(&TEXT[..length]);
+    for text in [TEXT, NEW_TEXT] {
+        for length in 0..text.len() {
+            assert!(record_read(&text[..length]).is_err());
+            same(&text[..length]);
+        }
     }
 }
 
 #[test]
 fn texts_with_another_byte_have_line_and_column() {
-    for place in 0..TEXT.len() {
-        for byte in [0, b'\n', b'\r', b' ', b'0', b'1', b'9', b'F', b'f', 0xff] {
-            let mut text = TEXT.to_vec();
-            text[place] = byte;
-            same(&text);
+    for good in [TEXT, NEW_TEXT] {
+        for place in 0..good.len() {
+            for byte in [0, b'\n', b'\r', b' ', b'0', b'1', b'9', b'F', b'f', b'n', 0xff] {
+                let mut text = good.to_vec();
+                text[place] = byte;
+                same(&text);
+            }
         }
     }
 }
 
 #[test]
 fn a_refusal_says_what_its_line_should_be() {
-    let lines = TEXT.split(|byte| *byte == b'\n');
-    for (line, text) in (1..=7).zip(lines) {
-        let name = String::from_utf8_lossy(text);
-        let name = name.split_inclusive('=').next().unwrap();
-        let printed = Refusal::RecordText { line, column: 9 }.to_string();
-        let start =
-            format!("refused with 15: line {line} of the record is wrong or cut short at column 9");
-        assert!(printed.starts_with(&start), "{printed}");
-        assert!(printed.contains(&format!("should be {name}")), "{printed}");
+    for (form, text) in [(1, TEXT), (2, NEW_TEXT)] {
+        let lines = text.split(|byte| *byte == b'\n');
+        for (line, text) in (1..).zip(lines.filter(|line| !line.is_empty())) {
+            let name = String::from_utf8_lossy(text);
+            let name = name.split_inclusive('=').next().unwrap();
+            let refusal = Refusal::RecordText {
+                form,
+                line,
+                column: 9,
+            };
+            let printed = refusal.to_string();
+            let start = format!("refused with 15: line {line} of the record is wrong or cut short at column 9");
+            assert!(printed.starts_with(&start), "{printed}");
+            assert!(printed.contains(&format!("should be {name}")), "{printed}");
+        }
     }
 }
 

@@ -22,8 +22,13 @@ const fn asked(algorithm: u64, usage: u64, side: u64, place: u64) -> Asked {
         usage,
         side,
         place,
+        mcc: 0,
+        mnc: 0,
     }
 }
+
+/// In range but for a network code.
+const OTHER_NETWORK: Asked = Asked { mcc: 1024, ..GOOD };
 
 fn span(start: usize, length: usize, skip: usize) -> Span {
     Span {
@@ -131,6 +136,9 @@ fn loaded_and_moved(reached: &mut Reached) {
     load(11, 4, asked(5, 3, 2, 28));
     load(11, 3, asked(5, 3, 0, 80));
     load(11, 4, asked(5, 3, 0, 256));
+    load(11, 4, Asked { place: 80, ..OTHER_NETWORK });
+    load(20, 3, OTHER_NETWORK);
+    load(20, 4, Asked { mnc: 16384, ..GOOD });
     load(9, 3, GOOD);
 
     let mut moved = |number, from, to, asked: u64| {
@@ -178,7 +186,9 @@ fn tables_from_c(reached: &mut Reached) {
     let good = Table::try_from(&slot(filled)[..]).unwrap();
     assert_eq!(good.read(32).unwrap().place, 79);
 
-    let bad: [fn(&mut Slot); 4] = [
+    let bad: [fn(&mut Slot); 6] = [
+        |slot| slot.mnc = 1,
+        |slot| (slot.algorithm, slot.usage, slot.mcc) = (6, 3, 1024),
         |slot| slot.key[23] = 1,
         |slot| slot.version = 1,
         |slot| (slot.algorithm, slot.usage, slot.place) = (6, 3, 80),
@@ -205,6 +215,8 @@ fn second_slot(slot: &Slot) -> second::slots::Slot {
         usage: slot.usage.into(),
         side: slot.side.into(),
         place: slot.place.into(),
+        mcc: slot.mcc.into(),
+        mnc: slot.mnc.into(),
         key: slot.key,
     }
 }
@@ -229,7 +241,8 @@ fn records(reached: &mut Reached) {
     write(1, 1, asked(8, 3, 0, 28), 0);
     write(10, 1, asked(5, 4, 0, 80), 0);
     write(11, 1, asked(5, 3, 0, 80), 0);
-    write(17, 1, GOOD, 104);
+    write(20, 1, OTHER_NETWORK, 0);
+    write(17, 1, GOOD, 123);
     write(17, 1, GOOD, 0);
 }
 
@@ -311,7 +324,7 @@ fn every_refusal_is_reached_and_changes_nothing() {
     records(&mut reached);
     plans(&mut reached);
     pdus(&mut reached);
-    assert_eq!(reached.0, (1..=19).collect());
+    assert_eq!(reached.0, (1..=20).collect());
 }
 
 #[test]

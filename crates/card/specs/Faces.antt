@@ -9,16 +9,17 @@ use Rattle.plan.specs.declared.Plan.{Plan}
 use Rattle.whole.specs.declared.Pdu.{Pdu}
 
 -- the fields that a caller gives one by one
-abbrev pub asking : ℕ → ℕ → ℕ → ℕ → ℕ → Asked
-asking version algorithm usage side place = record { version = version; algorithm = algorithm; usage = usage; side = side; place = place }
+abbrev pub asking : ℕ → ℕ → ℕ → ℕ → ℕ → ℕ → ℕ → Asked
+asking version algorithm usage side place mcc mnc =
+    record { version = version; algorithm = algorithm; usage = usage; side = side; place = place; mcc = mcc; mnc = mnc }
 
 -- the inputs of a plan, but for the flag, that a caller gives one by one
 abbrev pub pduAs : ℕ → ℕ → ℕ → ℕ → ℕ → Pdu
 pduAs kind state length address sdu = record { kind = kind; state = state; length = length; address = address; sdu = sdu }
 
--- number, version, algorithm, use, side, place
+-- number, version, algorithm, use, side, place, network
 abbrev pub shownNumbers : ℕ → Fields → List ℕ
-shownNumbers number f = number ∷ f .version ∷ f .algorithm ∷ f .usage ∷ f .side ∷ f .place ∷ []
+shownNumbers number f = number ∷ f .version ∷ f .algorithm ∷ f .usage ∷ f .side ∷ f .place ∷ f .mcc ∷ f .mnc ∷ []
 
 -- start, length and skip of the first piece, and of the second
 abbrev pub pieceNumbers : Plan → List ℕ

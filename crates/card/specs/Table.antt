@@ -37,9 +37,9 @@ wholeAnswerIn t direction number iv buf u = wholeAnswerOf (isNoTable t) (slotAt 
 abbrev pub changedAs : ℕ → List Slot → Changed
 changedAs refusal table = record { refusal = refusal; table = table }
 
-abbrev pub shownAs : ℕ → ℕ → ℕ → ℕ → ℕ → ℕ → ℕ → Shown
-shownAs refusal number version algorithm usage side place = record {
+abbrev pub shownAs : ℕ → ℕ → ℕ → ℕ → ℕ → ℕ → ℕ → ℕ → ℕ → Shown
+shownAs refusal number version algorithm usage side place mcc mnc = record {
   refusal = refusal;
   number = number;
-  fields = record { version = version; algorithm = algorithm; usage = usage; side = side; place = place };
+  fields = record { version = version; algorithm = algorithm; usage = usage; side = side; place = place; mcc = mcc; mnc = mnc };
 }

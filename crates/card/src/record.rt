@@ -9,7 +9,7 @@ use fields::Asked;
 #[no_mangle]
 pub extern "C" fn card_record_read(
     text: &[u8],
-    shown: &mut [u64; 6],
+    shown: &mut [u64; 8],
     key: &mut [u8; 24],
     used: &mut usize,
     line: &mut usize,
@@ -28,6 +28,8 @@ pub extern "C" fn card_record_read(
         f.usage as u64,
         f.side as u64,
         f.place as u64,
+        f.mcc as u64,
+        f.mnc as u64,
     ];
     *key = k;
     *used = r.used;
@@ -45,12 +47,14 @@ pub extern "C" fn card_record_write(
     usage: u64,
     side: u64,
     place: u64,
+    mcc: u64,
+    mnc: u64,
     key: &[u8; 24],
     buf: &mut [u8],
     length: &mut usize,
 ) -> u8
     ensures { λ r. ⌜ writtenAs r (now (length .exit)) (now (buf .exit))
-        ≡ writtenOut number (asking version algorithm usage side place) (now (key .entry)) (now (buf .entry)) ⌝ }
+        ≡ writtenOut number (asking version algorithm usage side place mcc mnc) (now (key .entry)) (now (buf .entry)) ⌝ }
 {
     let asked = Asked {
         version,
@@ -58,6 +62,8 @@ pub extern "C" fn card_record_write(
         usage,
         side,
         place,
+        mcc,
+        mnc,
     };
     let w = record_writer::write_record(number, asked, *key, buf);
     *length = w.length;

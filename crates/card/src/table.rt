@@ -26,9 +26,11 @@ fn load_from(
     usage: u64,
     side: u64,
     place: u64,
+    mcc: u64,
+    mnc: u64,
     key: &[u8; 24],
 ) -> Put
-    ensures { λ r. ⌜ r ≡ loadPut bad slot number (asking version algorithm usage side place) (now (key .entry)) ⌝ }
+    ensures { λ r. ⌜ r ≡ loadPut bad slot number (asking version algorithm usage side place mcc mnc) (now (key .entry)) ⌝ }
 {
     let asked = Asked {
         version,
@@ -36,6 +38,8 @@ fn load_from(
         usage,
         side,
         place,
+        mcc,
+        mnc,
     };
     let k = *key;
     slots::load_of(bad, slot, number, asked, k)
@@ -51,10 +55,12 @@ pub extern "C" fn card_load(
     usage: u64,
     side: u64,
     place: u64,
+    mcc: u64,
+    mnc: u64,
     key: &[u8; 24],
 ) -> u8
     ensures { λ r. ⌜ changedAs r (now (t .exit))
-        ≡ loadedIn (now (t .entry)) number (asking version algorithm usage side place) (now (key .entry)) ⌝ }
+        ≡ loadedIn (now (t .entry)) number (asking version algorithm usage side place mcc mnc) (now (key .entry)) ⌝ }
 {
     let put = load_from(
         is_no_table(t),
@@ -65,6 +71,8 @@ pub extern "C" fn card_load(
         usage,
         side,
         place,
+        mcc,
+        mnc,
         key,
     );
     put_slot(t, number, put)
@@ -106,8 +114,10 @@ fn show_from<'a>(
     usage: &'a mut u8,
     side: &'a mut u8,
     place: &'a mut u8,
+    mcc: &'a mut u16,
+    mnc: &'a mut u16,
 ) -> u8
-    ensures { λ r. ⌜ shownAs r (now (there .exit)) (now (version .exit)) (now (algorithm .exit)) (now (usage .exit)) (now (side .exit)) (now (place .exit)) ≡ shownOf bad slot number ⌝ }
+    ensures { λ r. ⌜ shownAs r (now (there .exit)) (now (version .exit)) (now (algorithm .exit)) (now (usage .exit)) (now (side .exit)) (now (place .exit)) (now (mcc .exit)) (now (mnc .exit)) ≡ shownOf bad slot number ⌝ }
 {
     let s = slots::read_of(bad, slot, number);
     let f = s.fields;
@@ -117,6 +127,8 @@ fn show_from<'a>(
     *usage = f.usage;
     *side = f.side;
     *place = f.place;
+    *mcc = f.mcc;
+    *mnc = f.mnc;
     s.refusal
 }
 
@@ -131,8 +143,10 @@ pub extern "C" fn card_read<'a>(
     usage: &'a mut u8,
     side: &'a mut u8,
     place: &'a mut u8,
+    mcc: &'a mut u16,
+    mnc: &'a mut u16,
 ) -> u8
-    ensures { λ r. ⌜ shownAs r (now (there .exit)) (now (version .exit)) (now (algorithm .exit)) (now (usage .exit)) (now (side .exit)) (now (place .exit)) ≡ shownIn (now (t .entry)) number ⌝ }
+    ensures { λ r. ⌜ shownAs r (now (there .exit)) (now (version .exit)) (now (algorithm .exit)) (now (usage .exit)) (now (side .exit)) (now (place .exit)) (now (mcc .exit)) (now (mnc .exit)) ≡ shownIn (now (t .entry)) number ⌝ }
 {
     show_from(
         is_no_table(t),
@@ -144,6 +158,8 @@ pub extern "C" fn card_read<'a>(
         usage,
         side,
         place,
+        mcc,
+        mnc,
     )
 }
 

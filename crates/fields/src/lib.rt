@@ -1,8 +1,9 @@
 // The fields of a key, which may be shown, their ranges, and the refusals that load and record writing share.
-ghost use mathlib.Core.Path.{_≡_};
-ghost use mathlib.Core.Bool.{true};
-ghost use Rattle.fields.specs.Fields.{between, isSlotNumber, isAlgorithm, isUse, isSide, isPlace, rightsRefusal, allInRange, storedOf};
 use refusals::refuse;
+ghost use mathlib.Core.Path.{_≡_};
+ghost use mathlib.Core.Bool.{true, _&&_};
+ghost use lib.Dec.{leb};
+ghost use Rattle.fields.specs.Fields.{between, isSlotNumber, isAlgorithm, isUse, rightsRefusal, allInRange, storedOf};
 
 // As a slot holds them. Usage is 1 send, 2 receive, 3 both.
 #[repr(C)]
@@ -12,6 +13,8 @@ pub struct Fields {
     pub usage: u8,
     pub side: u8,
     pub place: u8,
+    pub mcc: u16,
+    pub mnc: u16,
 }
 
 // As a caller gives them: wide, so that no number that an engineer can type is cut before it is refused.
@@ -21,6 +24,8 @@ pub struct Asked {
     pub usage: u64,
     pub side: u64,
     pub place: u64,
+    pub mcc: u64,
+    pub mnc: u64,
 }
 
 fn lies_between(low: u64, n: u64, high: u64) -> bool
@@ -47,19 +52,13 @@ pub fn is_use(u: u64) -> bool
     lies_between(1, u, 3)
 }
 
-fn is_side(s: u64) -> bool
-    ensures { λ r. ⌜ r ≡ isSide s ⌝ }
+fn both_at_most(a: u64, most_a: u64, b: u64, most_b: u64) -> bool
+    ensures { λ r. ⌜ r ≡ leb a «most_a» && leb b «most_b» ⌝ }
 {
-    s <= 1
+    a <= most_a && b <= most_b
 }
 
-fn is_place(p: u64) -> bool
-    ensures { λ r. ⌜ r ≡ isPlace p ⌝ }
-{
-    p <= 79
-}
-
-// Refusals 10 and 11, in this order.
+// Refusals 10, 11 and 20, in this order.
 pub fn rights_refusal(a: Asked) -> u8
     ensures { λ r. ⌜ r ≡ rightsRefusal a ⌝ }
 {
@@ -67,9 +66,13 @@ pub fn rights_refusal(a: Asked) -> u8
         !is_use(a.usage),
         refusals::CODE,
         refuse(
-            !is_side(a.side),
+            !both_at_most(a.side, 1, a.place, 79),
             refusals::SIDE_OR_PLACE,
-            refuse(!is_place(a.place), refusals::SIDE_OR_PLACE, refusals::DONE),
+            refuse(
+                !both_at_most(a.mcc, 1023, a.mnc, 16383),
+                refusals::NETWORK,
+                refusals::DONE,
+            ),
         ),
     )
 }
@@ -85,5 +88,7 @@ pub fn stored(a: Asked) -> Fields
         usage: a.usage as u8,
         side: a.side as u8,
         place: a.place as u8,
+        mcc: a.mcc as u16,
+        mnc: a.mnc as u16,
     }
 }

@@ -1,7 +1,7 @@
 -- Loading record after record. Assumes nothing.
 use mathlib.Core.Path.{_≡_, refl, sym, ap, _∙_}
 use mathlib.Core.Logic.{_⊎_, inl, inr, ⊎-elim}
-use mathlib.Core.Bool.{false, not}
+use mathlib.Core.Bool.{Bool, true, false, not}
 use mathlib.Core.List.{List}
 use Prim.Native.Nat.{ℕ, zero, suc, _+_, _<_, _≤_}
 use native.Mathlib.Omega.{arith}
@@ -17,9 +17,9 @@ use Rattle.slots.specs.declared.Changed.{Changed}
 use Rattle.fields.specs.Fields.{askedOf}
 use Rattle.slots.specs.Calls.{loaded}
 use Rattle.record_reader.specs.declared.RecordRead.{RecordRead}
-use Rattle.record_text.specs.Text.{recordText}
+use Rattle.record_text.specs.Text.{linesText, formText}
 use Rattle.forms.specs.Form.{Outcome, found, wrong, readAt}
-use Rattle.record_reader.specs.Record.{Entry, recordForm, readAnswer, recordRead}
+use Rattle.record_reader.specs.Record.{Entry, recordForm, startsForm, readAnswer, recordRead}
 use Rattle.forms.proofs.Forms.{spelt}
 use Rattle.record_reader.proofs.Records.{record-means}
 use Rattle.loading.specs.declared.Loaded.{Loaded}
@@ -30,20 +30,21 @@ pub record Taken (s : List ℕ) (used : ℕ) : Type 0 where
   pub some : 0 < used
   pub within : used ≤ length s
 
-text-some : (e : Entry) → 0 < length (recordText (e .number) (e .fields) (e .key))
-unfolding recordText
-text-some e = omega arith
+text-some : (two : Bool) (e : Entry) → 0 < length (formText two (e .number) (e .fields) (e .key))
+unfolding formText linesText
+text-some true e = omega arith
+text-some false e = omega arith
 
 pub taken : (s : List ℕ) → recordRead s .refusal ≡ done → Taken s (recordRead s .used)
 unfolding recordRead
-taken s = go (readAt recordForm s 0) refl
+taken s = go (readAt (recordForm (startsForm s)) s 0) refl
   where
-    go : (o : Outcome Entry) → readAt recordForm s 0 ≡ o → readAnswer s o .refusal ≡ done → Taken s (readAnswer s o .used)
+    go : (o : Outcome Entry) → readAt (recordForm (startsForm s)) s 0 ≡ o → readAnswer s o .refusal ≡ done → Taken s (readAnswer s o .used)
     go (found e used) h z =
-        let r = spelt recordForm s 0 e used h in
-        let t = ap length (record-means .only e (r .text) (r .spells) .1) in
+        let r = spelt (recordForm (startsForm s)) s 0 e used h in
+        let t = ap length (record-means (startsForm s) .only e (r .text) (r .spells) .1) in
         record {
-          some = omega (arith, r .after, text-some e);
+          some = omega (arith, r .after, text-some (startsForm s) e);
           within = omega (arith, r .after, simp length-append at (ap length (r .splits)));
         }
     go (wrong place) h z = absurd (omega arith)
@@ -51,7 +52,7 @@ taken s = go (readAt recordForm s 0) refl
 -- a text that is not read is refused with 15
 text-bad : (s : List ℕ) → (recordRead s .refusal ≡ done) ⊎ (recordRead s .refusal ≡ recordTextBad)
 unfolding recordRead
-text-bad s = go (readAt recordForm s 0)
+text-bad s = go (readAt (recordForm (startsForm s)) s 0)
   where
     go : (o : Outcome Entry) → (readAnswer s o .refusal ≡ done) ⊎ (readAnswer s o .refusal ≡ recordTextBad)
     go (found e used) = inl refl

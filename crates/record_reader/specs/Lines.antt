@@ -1,12 +1,15 @@
 -- The lines of a record that are not numbers, and what the reader of a key answers. Assumes nothing: these are definitions.
 use mathlib.Core.List.{List}
-use mathlib.Core.Bool.{true, false}
+use mathlib.Core.Bool.{Bool, true, false}
 use Prim.Native.Nat.{ℕ}
+use Prim.Native.String.{String}
 use lib.ListN.{replicate}
+use Rattle.laws.specs.Choice.{pick}
 use Rattle.algorithms.specs.Algorithm.{nameOf}
 use Rattle.writing.specs.Text.{ascii}
 use Rattle.record_text.specs.Text.{useWord}
-use Rattle.forms.specs.Form.{Form, done, literal, Outcome, found, wrong, _>>=_}
+use Rattle.forms.specs.Form.{Form, done, literal, line, Outcome, found, wrong, _>>=_}
+use Rattle.forms.specs.Decimals.{decimal}
 use Rattle.forms.specs.Words.{oneOf}
 use Rattle.forms.specs.Hexes.{bytes}
 use Rattle.record_reader.specs.declared.KeyReading.{KeyReading}
@@ -18,6 +21,10 @@ useForm = oneOf 1 (useWord 1) (useWord 2) (useWord 3)
 -- TEA5, TEA6, TEA7
 unfoldable pub algorithmForm : Form ℕ
 algorithmForm = oneOf 5 (nameOf 5) (nameOf 6) (nameOf 7)
+
+-- the line of a network code, which only form 2 has
+abbrev pub codeForm : Bool → String → ℕ → Form ℕ
+codeForm two name high = pick two (line name (decimal 0 high)) (done 0)
 
 -- a key, ended by LF
 unfoldable pub keyForm : Form (List ℕ)

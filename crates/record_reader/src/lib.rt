@@ -13,9 +13,12 @@ use record_text::use_word;
 ghost use mathlib.Core.Path.{_≡_};
 ghost use Prim.Native.Nat.{_≤_};
 ghost use lib.ListN.{length};
+ghost use Rattle.laws.specs.Choice.{pick};
+ghost use Rattle.forms.specs.Form.{done, named};
+ghost use Rattle.forms.specs.Decimals.{decimal};
 ghost use Rattle.reading.specs.Reading.{onward, answer};
 ghost use Rattle.record_reader.specs.Lines.{noKeyAt, keyAnswer, useForm, algorithmForm, keyForm};
-ghost use Rattle.record_reader.specs.Record.{refusedAt, recordRead};
+ghost use Rattle.record_reader.specs.Record.{startsForm, opened, refusedAt, recordRead};
 
 // A key and the place after it; or, once a byte is wrong, no key and the place of that byte.
 pub struct KeyReading {
@@ -101,22 +104,57 @@ fn refused_at(text: &[u8], place: usize) -> RecordRead
             usage: 0,
             side: 0,
             place: 0,
+            mcc: 0,
+            mnc: 0,
         },
         key: [0u8; 24],
     }
+}
+
+// Is the text one of form 2? Its first byte decides.
+fn starts_form(text: &[u8]) -> bool
+    ensures { λ r. ⌜ r ≡ startsForm (now (text .entry)) ⌝ }
+{
+    if text.len() == 0 {
+        return false;
+    }
+    text[0] == 102
+}
+
+// The line that says form 2, or nothing.
+fn read_form(text: &[u8], two: bool) -> Reading
+    ensures { λ r. ⌜ r ≡ opened two (now (text .entry)) ⌝ }
+{
+    if !two {
+        return good_to(0, 0);
+    }
+    read_literal(text, good_to(0, 0), b"form=2\n")
+}
+
+// The line of a network code, or nothing and 0.
+fn read_code<'a>(text: &'a [u8], before: Reading, two: bool, name: &'a [u8], high: u64) -> Reading
+    ensures { λ r. ⌜ r ≡ answer (onward before (pick two (named (now (name .entry)) (decimal 0 high)) (done 0)) (now (text .entry))) ⌝ }
+{
+    if two {
+        return read_line(text, before, name, 0, high);
+    }
+    read_literal(text, before, b"")
 }
 
 // One record from the front of a text. What follows it is not judged.
 pub fn read_record(text: &[u8]) -> RecordRead
     ensures { λ r. ⌜ r ≡ recordRead (now (text .entry)) ⌝ }
 {
-    let number = read_line(text, good_to(0, 0), b"number=", 1, 32);
+    let two = starts_form(text);
+    let number = read_line(text, read_form(text, two), b"number=", 1, 32);
     let version = read_line(text, number, b"version=", 0, 65535);
     let algorithm = read_algorithm(text, read_literal(text, version, b"alg="));
     let usage = read_use(text, read_literal(text, algorithm, b"use="));
     let side = read_line(text, usage, b"side=", 0, 1);
     let place = read_line(text, side, b"place=", 0, 79);
-    let key = read_key(text, read_literal(text, place, b"key="));
+    let mcc = read_code(text, place, two, b"mcc=", 1023);
+    let mnc = read_code(text, mcc, two, b"mnc=", 16383);
+    let key = read_key(text, read_literal(text, mnc, b"key="));
     let end = key.place;
     if !key.good {
         return refused_at(text, end);
@@ -134,6 +172,8 @@ pub fn read_record(text: &[u8]) -> RecordRead
             usage: usage.value as u8,
             side: side.value as u8,
             place: place.value as u8,
+            mcc: mcc.value as u16,
+            mnc: mnc.value as u16,
         },
         key: bytes,
     }

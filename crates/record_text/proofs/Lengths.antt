@@ -13,7 +13,7 @@ use Rattle.fields.specs.Fields.{isSide}
 use Rattle.fields.specs.declared.Fields.{Fields}
 use Rattle.fields.proofs.Ranges.{between-high}
 use Rattle.writing.specs.Text.{ascii, lf, digits, hexText, lineText}
-use Rattle.record_text.specs.Text.{useWord, recordText, Good}
+use Rattle.record_text.specs.Text.{useWord, linesText, formText, recordText, Good}
 use Rattle.writing.proofs.Digits.{length-one, length-some, digits-fit, line-then}
 use Rattle.writing.proofs.Puts.{length-hex}
 
@@ -31,10 +31,13 @@ unfolding nameOf
 name-length algorithm = refl
 
 pub text-length : (number : ℕ) (f : Fields) (key : List ℕ) → isSide (f .side) ≡ true → length key ≡ 24
-    → length (recordText number f key) ≡ 102 + (length (digits number) + (length (digits (f .version)) + length (digits (f .place))))
-unfolding recordText
+    → length (recordText number f key)
+    ≡ 119 + (length (digits number) + (length (digits (f .version)) + (length (digits (f .place)) + (length (digits (f .mcc)) + length (digits (f .mnc))))))
+unfolding formText linesText
 text-length number f key s k =
-    let seventh = lineText "key=" (hexText key) in
+    let ninth = lineText "key=" (hexText key) in
+    let eighth = lineText "mnc=" (digits (f .mnc)) ++ ninth in
+    let seventh = lineText "mcc=" (digits (f .mcc)) ++ eighth in
     let sixth = lineText "place=" (digits (f .place)) ++ seventh in
     let fifth = lineText "side=" (digits (f .side)) ++ sixth in
     let fourth = lineText "use=" (useWord (f .usage)) ++ fifth in
@@ -48,6 +51,8 @@ text-length number f key s k =
       line-then "use=" (useWord (f .usage)) fifth,
       line-then "side=" (digits (f .side)) sixth,
       line-then "place=" (digits (f .place)) seventh,
+      line-then "mcc=" (digits (f .mcc)) eighth,
+      line-then "mnc=" (digits (f .mnc)) ninth,
       length-append (hexText key) (lf ∷ []),
       name-length (f .algorithm),
       use-length (f .usage),
@@ -55,15 +60,19 @@ text-length number f key s k =
       length-hex key,
     )
 
--- 105 to 111 bytes
-pub text-size : (number : ℕ) (f : Fields) (key : List ℕ) → Good number f key
-    → (105 ≤ length (recordText number f key)) × (length (recordText number f key) ≤ 111)
+-- 124 to 137 bytes
+pub text-size : (number : ℕ) (f : Fields) (key : List ℕ) → Good true number f key
+    → (124 ≤ length (recordText number f key)) × (length (recordText number f key) ≤ 137)
 text-size number f key g =
     let e = text-length number f key (g .side) (g .size) in
     let n = digits-fit 1 number (omega (arith, between-high 1 number 32 (g .slot))) in
     let v = digits-fit 4 (f .version) (omega (arith, g .version)) in
     let p = digits-fit 1 (f .place) (omega (arith, leb-true (f .place) 79 (g .place))) in
+    let c = digits-fit 3 (f .mcc) (omega (arith, g .mcc)) in
+    let w = digits-fit 4 (f .mnc) (omega (arith, g .mnc)) in
     let n′ = length-some number in
     let v′ = length-some (f .version) in
     let p′ = length-some (f .place) in
+    let c′ = length-some (f .mcc) in
+    let w′ = length-some (f .mnc) in
     (omega arith, omega arith)

@@ -1,17 +1,18 @@
 -- What writing refuses, and what it answers. Assumes nothing.
 use mathlib.Core.Path.{_≡_, refl, sym, ap, _∙_}
 use mathlib.Core.List.{List, _++_}
-use mathlib.Core.Bool.{true, not, _||_}
+use mathlib.Core.Bool.{Bool, true, false, not, _&&_}
 use Prim.Native.Nat.{ℕ, _≤_}
 use native.Mathlib.Nat.{zero-add}
 use native.Mathlib.Omega.{arith}
-use lib.Dec.{ltb, lit<}
+use lib.Dec.{eqb, ltb, lit<}
 use lib.ListN.{length, drop}
 use lib.Seq.{sets-eq}
-use borrow.Author.Tests.{le-ltb, ltb-false, eqb-true, eq-eqb, ne-eqb, not-false}
-use Rattle.laws.proofs.Cases.{neither, unpicked, unpicked-own}
-use Rattle.refusals.specs.Numbers.{done, slotNumberBad, algorithmUnknown, codeUnknown, sideOrPlaceBad, recordTooLong}
-use Rattle.fields.specs.Fields.{isSlotNumber, isAlgorithm, isUse, isSide, isPlace, rightsRefusal, storedOf, askedOf}
+use borrow.Author.Tests.{le-ltb, le-leb, ltb-false, leb-true, eqb-true, eq-eqb, ne-eqb, not-false}
+use Rattle.laws.specs.Choice.{pick}
+use Rattle.laws.proofs.Cases.{and-left, and-right, unpicked, unpicked-own}
+use Rattle.refusals.specs.Numbers.{done, slotNumberBad, algorithmUnknown, codeUnknown, sideOrPlaceBad, networkBad, recordTooLong}
+use Rattle.fields.specs.Fields.{isSlotNumber, isAlgorithm, isUse, isSide, isPlace, isMcc, isMnc, rightsRefusal, storedOf, askedOf}
 use Rattle.fields.specs.declared.Asked.{Asked}
 use Rattle.fields.specs.declared.Fields.{Fields}
 use Rattle.record_text.specs.Text.{recordText, Good}
@@ -60,11 +61,20 @@ module _ (number : ℕ) (asked : Asked) (key b : List ℕ) where
         )
 
 -- a good record is refused only for want of room
-pub nothing-refused : (number : ℕ) (f : Fields) (key b : List ℕ) → Good number f key → length (recordText number f key) ≤ length b
+pub nothing-refused : (number : ℕ) (f : Fields) (key b : List ℕ) → Good true number f key → length (recordText number f key) ≤ length b
     → writeRefusal number (askedOf f) key (length b) ≡ done
 unfolding writeRefusal
 nothing-refused number f key b g h =
-    rw (g .slot, g .algorithm, g .usage, g .side, g .place, le-ltb (length b) (length (recordText number f key)) h)
+    rw (
+      g .slot,
+      g .algorithm,
+      g .usage,
+      g .side,
+      g .place,
+      le-leb (f .mcc) 1023 (g .mcc),
+      le-leb (f .mnc) 16383 (g .mnc),
+      le-ltb (length b) (length (recordText number f key)) h,
+    )
 
 -- and then its text is put
 pub put-whole : (number : ℕ) (asked : Asked) (key b : List ℕ) → writeRefusal number asked key (length b) ≡ done
@@ -78,9 +88,29 @@ pub record Right (a : Asked) : Type 0 where
   pub usage : isUse (a .usage) ≡ true
   pub side : isSide (a .side) ≡ true
   pub place : isPlace (a .place) ≡ true
+  pub mcc : a .mcc ≤ 1023
+  pub mnc : a .mnc ≤ 16383
 
 pub right : (a : Asked) → rightsRefusal a ≡ done → Right a
 right a e =
     let u = unpicked (not (isUse (a .usage))) codeUnknown _ (lit< tt) e in
-    let n = neither _ _ (unpicked (not (isSide (a .side)) || not (isPlace (a .place))) sideOrPlaceBad _ (lit< tt) (u .1) .0) in
-    record { usage = not-false _ (u .0); side = not-false _ (n .0); place = not-false _ (n .1) }
+    let p = unpicked (not (isSide (a .side) && isPlace (a .place))) sideOrPlaceBad _ (lit< tt) (u .1) in
+    let n = unpicked (not (isMcc (a .mcc) && isMnc (a .mnc))) networkBad _ (lit< tt) (p .1) in
+    let both = not-false _ (p .0) in
+    let codes = not-false _ (n .0) in
+    record {
+      usage = not-false _ (u .0);
+      side = and-left (isSide (a .side)) _ both;
+      place = and-right (isSide (a .side)) _ both;
+      mcc = leb-true (a .mcc) 1023 (and-left (isMcc (a .mcc)) _ codes);
+      mnc = leb-true (a .mnc) 16383 (and-right (isMcc (a .mcc)) _ codes);
+    }
+
+-- what comes after the rights counts only where they have no refusal
+pub after-rights : (rights room x y : ℕ) → (rights ≡ done → x ≡ y)
+    → pick (not (eqb rights done)) rights (pick (ltb room x) recordTooLong done) ≡ pick (not (eqb rights done)) rights (pick (ltb room y) recordTooLong done)
+after-rights rights room x y h = go (eqb rights done) refl
+  where
+    go : (t : Bool) → eqb rights done ≡ t → pick (not t) rights (pick (ltb room x) recordTooLong done) ≡ pick (not t) rights (pick (ltb room y) recordTooLong done)
+    go true e = ap (λ (n : ℕ). pick (ltb room n) recordTooLong done) (h (eqb-true rights done e))
+    go false e = refl

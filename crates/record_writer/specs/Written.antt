@@ -13,7 +13,7 @@ use Rattle.record_writer.specs.declared.RecordWritten.{RecordWritten}
 use Rattle.record_text.specs.Text.{recordText}
 use Rattle.writing.specs.Writing.{atFront}
 
--- the order of writing: 7, 1, 10, 11, 17
+-- the order of writing: 7, 1, 10, 11, 20, 17
 unfoldable pub writeRefusal : ℕ → Asked → List ℕ → ℕ → ℕ
 writeRefusal number asked key room =
     numbers.refuse (not (isSlotNumber number)) numbers.slotNumberBad

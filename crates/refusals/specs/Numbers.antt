@@ -63,7 +63,7 @@ ivSideWrong = 13
 abbrev pub useNotWithin : ℕ
 useNotWithin = 14
 
--- record text bad; line 1..7 given
+-- record text bad; line and column given
 abbrev pub recordTextBad : ℕ
 recordTextBad = 15
 
@@ -82,6 +82,10 @@ pduCodeUnknown = 18
 -- PDU parts don't fit
 abbrev pub pduPartsDontFit : ℕ
 pduPartsDontFit = 19
+
+-- mobile country code above 1,023 or mobile network code above 16,383
+abbrev pub networkBad : ℕ
+networkBad = 20
 
 -- refused with the number where the test holds, else what comes later in the order
 abbrev pub refuse : Bool → ℕ → ℕ → ℕ

@@ -47,7 +47,7 @@ pub const IV_SIDE: u8 = 13;
 // asked use not within the present use
 pub const USE_WIDER: u8 = 14;
 
-// record text bad; line 1..7 given
+// record text bad; line and column given
 pub const RECORD_TEXT: u8 = 15;
 
 // table not 32 records, or a bad slot in it
@@ -61,6 +61,9 @@ pub const PDU_CODE: u8 = 18;
 
 // PDU parts don't fit
 pub const PDU_PARTS: u8 = 19;
+
+// mobile country code above 1,023 or mobile network code above 16,383
+pub const NETWORK: u8 = 20;
 
 // The number where the test holds, else what comes later in the order. An order of refusals is a value, and reads as in specs/.
 pub fn refuse(test: bool, number: u8, later: u8) -> u8

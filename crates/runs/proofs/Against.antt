@@ -45,18 +45,18 @@ writing buffer = cardBy loaded moved cleared shown trafficRefusal trafficBlocks 
 abbrev pub writingPdu : OfPdu (List ℕ) → Card
 writingPdu buffer = cardBy loaded moved cleared shown trafficRefusal trafficBlocks trafficked wholeRefusal wholeBlocks buffer
 
--- what the lists of calls are made of: a key of TEA5 for any use, with side 0 at place 28; a key of one byte 24 times; an initial value of
+-- what the lists of calls are made of: a key of TEA5 for any use, with side 0 at place 28, of network 262, 1001; a key of one byte 24 times; an initial value of
 -- zeros, and one whose bit 28 is 1; one byte to cipher
 
 abbrev pub asked : ℕ → Asked
-asked usage = record { version = 7; algorithm = 5; usage = usage; side = 0; place = 28 }
+asked usage = record { version = 7; algorithm = 5; usage = usage; side = 0; place = 28; mcc = 262; mnc = 1001 }
 
 abbrev pub slotOf : ℕ → List ℕ → Slot
 slotOf usage key = record { fields = storedOf (asked usage); key = key }
 
-abbrev pub made : ℕ → ℕ → ℕ → ℕ → ℕ → List ℕ → Slot
-made version algorithm usage side place key =
-    record { fields = record { version = version; algorithm = algorithm; usage = usage; side = side; place = place }; key = key }
+abbrev pub made : ℕ → ℕ → ℕ → ℕ → ℕ → ℕ → ℕ → List ℕ → Slot
+made version algorithm usage side place mcc mnc key =
+    record { fields = record { version = version; algorithm = algorithm; usage = usage; side = side; place = place; mcc = mcc; mnc = mnc }; key = key }
 
 abbrev pub keyOf : ℕ → List ℕ
 keyOf b = replicate 24 b
@@ -87,7 +87,7 @@ allChosen origin = true
 -- what a move may make of a slot: one for both directions, or one with place 0
 
 abbrev pub forBoth : Slot → Slot
-forBoth s = made (s .fields .version) (s .fields .algorithm) 3 (s .fields .side) (s .fields .place) (s .key)
+forBoth s = made (s .fields .version) (s .fields .algorithm) 3 (s .fields .side) (s .fields .place) (s .fields .mcc) (s .fields .mnc) (s .key)
 
 abbrev pub atPlace0 : Slot → Slot
-atPlace0 s = made (s .fields .version) (s .fields .algorithm) (s .fields .usage) (s .fields .side) 0 (s .key)
+atPlace0 s = made (s .fields .version) (s .fields .algorithm) (s .fields .usage) (s .fields .side) 0 (s .fields .mcc) (s .fields .mnc) (s .key)

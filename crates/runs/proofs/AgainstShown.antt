@@ -30,7 +30,7 @@ shows-key-byte demand =
 -- a read that shows it as the slot's version
 
 abbrev versioned : ℕ → Fields → Fields
-versioned version f = record { version = version; algorithm = f .algorithm; usage = f .usage; side = f .side; place = f .place }
+versioned version f = record { version = version; algorithm = f .algorithm; usage = f .usage; side = f .side; place = f .place; mcc = f .mcc; mnc = f .mnc }
 
 abbrev pub showsKeyInVersion : Card
 showsKeyInVersion = showing (λ table number. record { refusal = shown table number .refusal; number = number; fields = versioned (keyByte table number) (shown table number .fields) })

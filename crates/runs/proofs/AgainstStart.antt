@@ -34,7 +34,7 @@ leaksTea6 =
     trafficRefusal trafficBlocks trafficked wholeRefusal wholeBlocks wholed
 
 abbrev tea6 : List ℕ → List Slot
-tea6 key = withSlot emptyTable 1 (made 7 6 1 0 28 key)
+tea6 key = withSlot emptyTable 1 (made 7 6 1 0 28 0 0 key)
 
 two-keys : Starts allChosen (tea6 (keyOf 0)) (tea6 (keyOf 1))
 unfolding hasBad isBad isFilled isEmpty allZero

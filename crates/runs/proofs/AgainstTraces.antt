@@ -36,7 +36,7 @@ pub widens-use : Demand3 widensUse → ⊥
 widens-use demand = let e : false ≡ true = would-keep forBoth demand .usage in true≢false (sym e)
 
 abbrev ofVersion0 : Slot → Slot
-ofVersion0 s = made 0 (s .fields .algorithm) (s .fields .usage) (s .fields .side) (s .fields .place) (s .key)
+ofVersion0 s = made 0 (s .fields .algorithm) (s .fields .usage) (s .fields .side) (s .fields .place) (s .fields .mcc) (s .fields .mnc) (s .key)
 
 abbrev pub losesVersion : Card
 losesVersion = movingReceived ofVersion0
@@ -45,7 +45,7 @@ pub loses-version : Demand3 losesVersion → ⊥
 loses-version demand = let e : _≡_ {A = ℕ} 0 7 = ap (λ (s : Slot). s .fields .version) (would-keep ofVersion0 demand .rest) in omega arith
 
 abbrev asTea6 : Slot → Slot
-asTea6 s = made (s .fields .version) 6 (s .fields .usage) (s .fields .side) (s .fields .place) (s .key)
+asTea6 s = made (s .fields .version) 6 (s .fields .usage) (s .fields .side) (s .fields .place) (s .fields .mcc) (s .fields .mnc) (s .key)
 
 abbrev pub losesAlgorithm : Card
 losesAlgorithm = movingReceived asTea6
@@ -54,7 +54,7 @@ pub loses-algorithm : Demand3 losesAlgorithm → ⊥
 loses-algorithm demand = let e : _≡_ {A = ℕ} 6 5 = ap (λ (s : Slot). s .fields .algorithm) (would-keep asTea6 demand .rest) in omega arith
 
 abbrev onSide1 : Slot → Slot
-onSide1 s = made (s .fields .version) (s .fields .algorithm) (s .fields .usage) 1 (s .fields .place) (s .key)
+onSide1 s = made (s .fields .version) (s .fields .algorithm) (s .fields .usage) 1 (s .fields .place) (s .fields .mcc) (s .fields .mnc) (s .key)
 
 abbrev pub losesSide : Card
 losesSide = movingReceived onSide1
@@ -68,8 +68,26 @@ losesPlace = movingReceived atPlace0
 pub loses-place : Demand3 losesPlace → ⊥
 loses-place demand = let e : _≡_ {A = ℕ} 0 28 = ap (λ (s : Slot). s .fields .place) (would-keep atPlace0 demand .rest) in omega arith
 
+abbrev withoutMcc : Slot → Slot
+withoutMcc s = made (s .fields .version) (s .fields .algorithm) (s .fields .usage) (s .fields .side) (s .fields .place) 0 (s .fields .mnc) (s .key)
+
+abbrev pub losesMcc : Card
+losesMcc = movingReceived withoutMcc
+
+pub loses-mcc : Demand3 losesMcc → ⊥
+loses-mcc demand = let e : _≡_ {A = ℕ} 0 262 = ap (λ (s : Slot). s .fields .mcc) (would-keep withoutMcc demand .rest) in omega arith
+
+abbrev withoutMnc : Slot → Slot
+withoutMnc s = made (s .fields .version) (s .fields .algorithm) (s .fields .usage) (s .fields .side) (s .fields .place) (s .fields .mcc) 0 (s .key)
+
+abbrev pub losesMnc : Card
+losesMnc = movingReceived withoutMnc
+
+pub loses-mnc : Demand3 losesMnc → ⊥
+loses-mnc demand = let e : _≡_ {A = ℕ} 0 1001 = ap (λ (s : Slot). s .fields .mnc) (would-keep withoutMnc demand .rest) in omega arith
+
 abbrev ofZeros : Slot → Slot
-ofZeros s = made (s .fields .version) (s .fields .algorithm) (s .fields .usage) (s .fields .side) (s .fields .place) (keyOf 0)
+ofZeros s = made (s .fields .version) (s .fields .algorithm) (s .fields .usage) (s .fields .side) (s .fields .place) (s .fields .mcc) (s .fields .mnc) (keyOf 0)
 
 abbrev pub losesKey : Card
 losesKey = movingReceived ofZeros

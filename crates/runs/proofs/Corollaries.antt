@@ -71,3 +71,6 @@ module _ (table : List Slot) (size : length table ≡ 32) (sound : hasBad table 
 
     pub place-never-changes : slot .fields .place ≡ given table cs origin .fields .place
     place-never-changes = ap (λ (s : Slot). s .fields .place) (kept .rest)
+
+    pub network-never-changes : (slot .fields .mcc ≡ given table cs origin .fields .mcc) × (slot .fields .mnc ≡ given table cs origin .fields .mnc)
+    network-never-changes = (ap (λ (s : Slot). s .fields .mcc) (kept .rest), ap (λ (s : Slot). s .fields .mnc) (kept .rest))

@@ -59,8 +59,8 @@ before (card-pdu m) = now (m .args .0)
 -- the call that it is, in the terms of demand 3
 abbrev pub called : Entry → Call
 called (card-load m) =
-    let (t, (number, (version, (algorithm, (usage, (side, (place, (key, end)))))))) = m .args in
-    load number (asking version algorithm usage side place) (now key)
+    let (t, (number, (version, (algorithm, (usage, (side, (place, (mcc, (mnc, (key, end)))))))))) = m .args in
+    load number (asking version algorithm usage side place mcc mnc) (now key)
 called (card-move m) = let (t, (from, (to, (asked, end)))) = m .args in move from to asked
 called (card-clear m) = let (t, (number, end)) = m .args in clear number
 called (card-read m) = let (t, (number, end)) = m .args in read number
@@ -77,8 +77,8 @@ left (card-load m) = let (t, rest) = ends _ m in changing (record { refusal = m 
 left (card-move m) = let (t, rest) = ends _ m in changing (record { refusal = m .answer; table = now t })
 left (card-clear m) = let (t, rest) = ends _ m in changing (record { refusal = m .answer; table = now t })
 left (card-read m) =
-    let (t, (number, (there, (version, (algorithm, (usage, (side, (place, end)))))))) = ends _ m in
-    reading (now t) (shownAs (m .answer) (now there) (now version) (now algorithm) (now usage) (now side) (now place))
+    let (t, (number, (there, (version, (algorithm, (usage, (side, (place, (mcc, (mnc, end)))))))))) = ends _ m in
+    reading (now t) (shownAs (m .answer) (now there) (now version) (now algorithm) (now usage) (now side) (now place) (now mcc) (now mnc))
 left (card-traffic m) =
     let (t, (direction, (number, (iv, (buf, (start, (n, (skip, (blocks, end))))))))) = ends _ m in
     ciphering (now t) (m .answer) (now blocks) (now buf)

@@ -20,10 +20,10 @@ use Rattle.runs.specs.Run.{startOf, next, run, stateAt, traceAt}
 -- a key of TEA6 for sending only, with side 0 at place 28; and a key of TEA5 for both, with side 1 at place 0
 
 abbrev sendOnly : Asked
-sendOnly = record { version = 17; algorithm = 6; usage = 1; side = 0; place = 28 }
+sendOnly = record { version = 17; algorithm = 6; usage = 1; side = 0; place = 28; mcc = 262; mnc = 1001 }
 
 abbrev both : Asked
-both = record { version = 4; algorithm = 5; usage = 3; side = 1; place = 0 }
+both = record { version = 4; algorithm = 5; usage = 3; side = 1; place = 0; mcc = 0; mnc = 0 }
 
 -- an initial value with bits 0 to 7 and bits 24 to 31 so, and two bytes to cipher
 abbrev ivWith : ℕ → ℕ → List ℕ

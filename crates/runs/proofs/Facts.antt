@@ -90,8 +90,15 @@ move-keeps-rest table from to asked size e =
     let algorithm : new .fields .algorithm ≡ old .fields .algorithm = rw here in
     let side : new .fields .side ≡ old .fields .side = rw here in
     let place = move-keeps-place table from to asked size e in
+    let mcc : new .fields .mcc ≡ old .fields .mcc = rw here in
+    let mnc : new .fields .mnc ≡ old .fields .mnc = rw here in
     let key : new .key ≡ old .key = rw here in
-    λ i. record { fields = record { version = version i; algorithm = algorithm i; usage = new .fields .usage; side = side i; place = place i }; key = key i }
+    λ i.
+    record {
+      fields =
+          record { version = version i; algorithm = algorithm i; usage = new .fields .usage; side = side i; place = place i; mcc = mcc i; mnc = mnc i };
+      key = key i;
+    }
 
 move-blind : (a b : List Slot) (from to asked : ℕ) → Alike a b → AlikeSteps (ourCard .move a from to asked) (ourCard .move b from to asked)
 move-blind a b from to asked alike = changing-alike (move-alike a b from to asked alike)

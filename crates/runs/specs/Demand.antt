@@ -66,7 +66,16 @@ pub record IsSend (how : Use) (f : Fields) : Type 0 where
 -- a slot, with another use
 abbrev pub withUse : Slot → ℕ → Slot
 withUse s usage = record {
-  fields = record { version = s .fields .version; algorithm = s .fields .algorithm; usage = usage; side = s .fields .side; place = s .fields .place };
+  fields =
+      record {
+        version = s .fields .version;
+        algorithm = s .fields .algorithm;
+        usage = usage;
+        side = s .fields .side;
+        place = s .fields .place;
+        mcc = s .fields .mcc;
+        mnc = s .fields .mnc;
+      };
   key = s .key;
 }
 

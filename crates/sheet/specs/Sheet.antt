@@ -39,7 +39,7 @@ listing sheet = loadedText (loadAll sheet)
 
 -- every listing fits a buffer of this many bytes
 abbrev pub room : ℕ
-room = 2048
+room = 2560
 
 -- what the call answers, and what the buffer holds after it
 unfoldable pub listedLength : List ℕ → List ℕ → ℕ

@@ -7,7 +7,7 @@ ghost use mathlib.Core.Path.{_≡_};
 ghost use Rattle.sheet.specs.Sheet.{listedLength, listedBuffer};
 
 // Every listing fits a buffer of this many bytes.
-pub const ROOM: usize = 2048;
+pub const ROOM: usize = 2560;
 
 // The listing of a sheet, at the front of the buffer, and its length. The bytes after it stay. A smaller buffer stays as it is, with length 0.
 pub fn list_sheet(sheet: &[u8], buffer: &mut [u8]) -> usize

@@ -10,7 +10,7 @@ use lib.Seq.{drop-cons}
 use Rattle.algorithms.specs.Algorithm.{nameOf}
 use Rattle.fields.specs.Fields.{allInRange, askedOf}
 use Rattle.fields.specs.declared.Fields.{Fields}
-use Rattle.fields.proofs.Ranges.{side-high, place-high}
+use Rattle.fields.proofs.Ranges.{side-high, place-high, mcc-high, mnc-high}
 use Rattle.slots.specs.declared.Slot.{Slot}
 use Rattle.slots.specs.Slots.{nil, isFilled}
 use Rattle.writing.specs.Text.{digits, lineText, item}
@@ -22,7 +22,9 @@ use Rattle.slot_lines.specs.Lines.{slotLine, slotText, slotLines, longes
 pub line-short : (number : ℕ) (f : Fields) → number ≤ 32 → f .version ≤ 65535 → allInRange (askedOf f) ≡ true → length (slotLine number f) ≤ longestLine
 unfolding slotLine
 line-short number f n v r =
-    let sixth = lineText " place=" (digits (f .place)) in
+    let eighth = lineText " mnc=" (digits (f .mnc)) in
+    let seventh = item " mcc=" (digits (f .mcc)) ++ eighth in
+    let sixth = item " place=" (digits (f .place)) ++ seventh in
     let fifth = item " side=" (digits (f .side)) ++ sixth in
     let fourth = item " use=" (useWord (f .usage)) ++ fifth in
     let third = item " alg=" (nameOf (f .algorithm)) ++ fourth in
@@ -34,13 +36,17 @@ line-short number f n v r =
       item-length " alg=" (nameOf (f .algorithm)) fourth,
       item-length " use=" (useWord (f .usage)) fifth,
       item-length " side=" (digits (f .side)) sixth,
-      line-length " place=" (digits (f .place)),
+      item-length " place=" (digits (f .place)) seventh,
+      item-length " mcc=" (digits (f .mcc)) eighth,
+      line-length " mnc=" (digits (f .mnc)),
       digits-fit 1 number (omega arith),
       digits-fit 4 (f .version) (omega arith),
       name-length (f .algorithm),
       use-length (f .usage),
       length-one (f .side) (omega (arith, side-high (askedOf f) r)),
       digits-fit 1 (f .place) (omega (arith, place-high (askedOf f) r)),
+      digits-fit 3 (f .mcc) (omega (arith, mcc-high (askedOf f) r)),
+      digits-fit 4 (f .mnc) (omega (arith, mnc-high (askedOf f) r)),
     )
 
 -- the text of a slot that is filled, and of one that is not

@@ -9,6 +9,14 @@ use Rattle.slots.specs.Slots.{isFilled}
 use Rattle.writing.specs.Text.{digits, item, lineText}
 use Rattle.record_text.specs.Text.{useWord}
 
+-- the codes
+abbrev pub codesText : Fields → List ℕ
+codesText f =
+    item " side=" (digits (f .side))
+    ++ (item " place=" (digits (f .place))
+    ++ (item " mcc=" (digits (f .mcc))
+    ++ lineText " mnc=" (digits (f .mnc))))
+
 -- all fields but the key
 unfoldable pub slotLine : ℕ → Fields → List ℕ
 slotLine number f =
@@ -16,8 +24,7 @@ slotLine number f =
     ++ (item " version=" (digits (f .version))
     ++ (item " alg=" (nameOf (f .algorithm))
     ++ (item " use=" (useWord (f .usage))
-    ++ (item " side=" (digits (f .side))
-    ++ lineText " place=" (digits (f .place))))))
+    ++ codesText f)))
 
 -- one line per filled slot
 abbrev pub slotText : ℕ → Slot → List ℕ
@@ -30,4 +37,4 @@ slotLines number (slot ∷ table) = slotText number slot ++ slotLines (number + 
 
 -- no line of a slot is longer
 abbrev pub longestLine : ℕ
-longestLine = 58
+longestLine = 77

@@ -11,8 +11,19 @@ ghost use mathlib.Core.Path.{_≡_};
 ghost use Prim.Native.Nat.{_+_, _*_, _≤_};
 ghost use lib.ListN.{length};
 ghost use Rattle.fields.specs.Fields.{allInRange, askedOf};
-ghost use Rattle.writing.specs.Writing.{Put};
-ghost use Rattle.slot_lines.specs.Lines.{slotLine, slotText, slotLines, longestLine};
+ghost use Rattle.writing.specs.Writing.{Room, Put};
+ghost use Rattle.slot_lines.specs.Lines.{codesText, slotLine, slotText, slotLines, longestLine};
+
+// The codes, which end a line.
+fn put_codes(buffer: &mut [u8], at: usize, f: Fields) -> usize
+    requires { ⌜ Room (now buffer) at (codesText f) ⌝ }
+    ensures { λ r. ⌜ Put (now (buffer .entry)) at (codesText f) (now (buffer .exit)) r ⌝ }
+{
+    let place = put_item(buffer, at, b" side=", f.side as u64);
+    let mcc = put_item(buffer, place, b" place=", f.place as u64);
+    let mnc = put_item(buffer, mcc, b" mcc=", f.mcc as u64);
+    put_line(buffer, mnc, b" mnc=", f.mnc as u64)
+}
 
 // The line of a filled slot, for a buffer that has room for the longest.
 fn put_slot_line(buffer: &mut [u8], at: usize, number: u64, f: Fields) -> usize
@@ -29,8 +40,7 @@ fn put_slot_line(buffer: &mut [u8], at: usize, number: u64, f: Fields) -> usize
         algorithms::name(f.algorithm as u64),
     );
     let side = put_word_item(buffer, usage, b" use=", use_word(f.usage as u64));
-    let place = put_item(buffer, side, b" side=", f.side as u64);
-    put_line(buffer, place, b" place=", f.place as u64)
+    put_codes(buffer, side, f)
 }
 
 fn put_slot(buffer: &mut [u8], at: usize, number: u64, slot: Slot) -> usize

@@ -11,11 +11,11 @@ use Rattle.slots.specs.Calls.{loadRefusalOf, loadRefusal}
 -- slot 1 is filled, with this use
 abbrev pub one : ℕ → List Slot
 one usage =
-    record { fields = record { version = 0; algorithm = 5; usage = usage; side = 0; place = 0 }; key = replicate 24 1 } ∷ replicate 31 empty
+    record { fields = record { version = 0; algorithm = 5; usage = usage; side = 0; place = 0; mcc = 0; mnc = 0 }; key = replicate 24 1 } ∷ replicate 31 empty
 
 -- the fields of a load, at this place
 abbrev pub atPlace : ℕ → Asked
-atPlace place = record { version = 0; algorithm = 5; usage = 1; side = 0; place = place }
+atPlace place = record { version = 0; algorithm = 5; usage = 1; side = 0; place = place; mcc = 0; mnc = 0 }
 
 pub place-79 : loadRefusal (one 1) 2 (atPlace 79) ≡ 0
 unfolding loadRefusalOf hasBad isBad isFilled isEmpty allZero

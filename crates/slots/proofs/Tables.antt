@@ -10,22 +10,26 @@ use lib.Dec.{eqb}
 use lib.ListN.{length, getD, set, drop, drop-of-length-le}
 use lib.Seq.{drop-cons}
 use Rattle.laws.proofs.Cases.{and-left, and-right, neither}
-use Rattle.refusals.specs.Numbers.{done, codeUnknown, sideOrPlaceBad, refuse}
+use Rattle.refusals.specs.Numbers.{done, codeUnknown, sideOrPlaceBad, networkBad, refuse}
 use Rattle.fields.specs.declared.Asked.{Asked}
-use Rattle.fields.specs.Fields.{isAlgorithm, isUse, isSide, isPlace, allInRange, rightsRefusal, askedOf}
+use Rattle.fields.specs.Fields.{isAlgorithm, isUse, isSide, isPlace, isMcc, isMnc, allInRange, rightsRefusal, askedOf}
 use Rattle.fields.proofs.Ranges.{between-low}
 use Rattle.slots.specs.declared.Slot.{Slot}
 use Rattle.slots.specs.Slots.{nil, allZero, isEmpty, isFilled, isBad, hasBad}
 
 -- the fields are in their ranges where the algorithm is and no right is refused
 pub in-range : (a : Asked) → allInRange a ≡ isAlgorithm (a .algorithm) && eqb (rightsRefusal a) done
-in-range a = ap (λ (t : Bool). isAlgorithm (a .algorithm) && t) (go (isUse (a .usage)) (isSide (a .side)) (isPlace (a .place)))
+in-range a =
+    ap (λ (t : Bool). isAlgorithm (a .algorithm) && t) (go (isUse (a .usage)) (isSide (a .side)) (isPlace (a .place)) (isMcc (a .mcc)) (isMnc (a .mnc)))
   where
-    go : (u s p : Bool) → u && (s && p) ≡ eqb (refuse (not u) codeUnknown (refuse (not s || not p) sideOrPlaceBad done)) done
-    go true true true = refl
-    go true true false = refl
-    go true false p = refl
-    go false s p = refl
+    go : (u s p m n : Bool) → u && (s && (p && (m && n)))
+        ≡ eqb (refuse (not u) codeUnknown (refuse (not (s && p)) sideOrPlaceBad (refuse (not (m && n)) networkBad done))) done
+    go true true true true true = refl
+    go true true true true false = refl
+    go true true true false n = refl
+    go true true false m n = refl
+    go true false p m n = refl
+    go false s p m n = refl
 
 -- a slot is filled where its fields, as a caller gives them, would not be refused
 pub filled-by : (s : Slot) (a : Asked) → a ≡ askedOf (s .fields) → isFilled s ≡ isAlgorithm (a .algorithm) && eqb (rightsRefusal a) done
@@ -47,7 +51,7 @@ pub filled-not-empty : (s : Slot) → isFilled s ≡ true → isEmpty s ≡ fals
 unfolding isFilled isEmpty
 filled-not-empty s e =
     let low = between-low 5 (s .fields .algorithm) 7 (and-left (isAlgorithm (s .fields .algorithm)) _ e) in
-    rw (ne-eqb (s .fields .algorithm) 0 (λ z. omega arith), and-false (eqb (s .fields .version) 0))
+    rw (ne-eqb (s .fields .algorithm) 0 (λ z. omega arith), and-false (eqb (s .fields .version) 0 && eqb (s .fields .mcc) 0 && eqb (s .fields .mnc) 0))
 
 pub empty-not-filled : (s : Slot) → isEmpty s ≡ true → isFilled s ≡ false
 empty-not-filled s e = go (isFilled s) refl

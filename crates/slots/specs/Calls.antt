@@ -75,7 +75,7 @@ loadedBy bad table number a key =
 abbrev pub loaded : List Slot → ℕ → Asked → List ℕ → Changed
 loaded table number a key = loadedBy (hasBad table) table number a key
 
--- version, algorithm, side, place and key are carried
+-- version, algorithm, side, place, network and key are carried
 abbrev pub movedFields : Fields → ℕ → Fields
 movedFields f asked = record {
   version = f .version;
@@ -83,6 +83,8 @@ movedFields f asked = record {
   usage = movedUse (f .usage) asked;
   side = f .side;
   place = f .place;
+  mcc = f .mcc;
+  mnc = f .mnc;
 }
 
 abbrev pub movedSlot : Slot → ℕ → Slot

@@ -12,7 +12,9 @@ use Rattle.slots.specs.declared.Slot.{Slot}
 
 -- zero in every field
 abbrev pub isNoFields : Fields → Bool
-isNoFields f = eqb (f .version) 0 && eqb (f .algorithm) 0 && eqb (f .usage) 0 && eqb (f .side) 0 && eqb (f .place) 0
+isNoFields f =
+    (eqb (f .version) 0 && eqb (f .mcc) 0 && eqb (f .mnc) 0)
+    && (eqb (f .algorithm) 0 && eqb (f .usage) 0 && eqb (f .side) 0 && eqb (f .place) 0)
 
 -- zero in every byte
 unfoldable pub allZero : List ℕ → Bool

@@ -47,6 +47,8 @@ fn no_fields() -> Fields
         usage: 0,
         side: 0,
         place: 0,
+        mcc: 0,
+        mnc: 0,
     }
 }
 
@@ -75,13 +77,15 @@ pub fn asked(f: Fields) -> Asked
         usage: f.usage as u64,
         side: f.side as u64,
         place: f.place as u64,
+        mcc: f.mcc as u64,
+        mnc: f.mnc as u64,
     }
 }
 
 fn is_no_fields(f: Fields) -> bool
     ensures { λ r. ⌜ r ≡ isNoFields f ⌝ }
 {
-    f.version == 0 && (f.algorithm | f.usage | f.side | f.place) == 0
+    (f.version | f.mcc | f.mnc) == 0 && (f.algorithm | f.usage | f.side | f.place) == 0
 }
 
 // Whether a slot shows nothing. Where it shows a field, its key has no say in what it is.
@@ -219,7 +223,7 @@ fn is_asked_use(asked: u64) -> bool
     asked <= 3
 }
 
-// Refusals 16, 7, 1, 10, 11, 9, in this order.
+// Refusals 16, 7, 1, 10, 11, 20, 9, in this order.
 fn load_refusal(bad: bool, slot: Slot, number: u64, asked: Asked) -> u8
     ensures { λ r. ⌜ r ≡ loadRefusalOf bad slot number asked ⌝ }
 {

@@ -16,13 +16,13 @@ use Rattle.span.specs.Span.{blocksUsed}
 use Rattle.slots.specs.Slots.{allZero, isEmpty, isFilled, isBad, hasBad}
 use Rattle.slots.specs.Calls.{moveRefusalOf}
 use Rattle.writing.specs.Text.{digitsWithin, digits, hexDigit, hexText}
-use Rattle.record_text.specs.Text.{useWord, recordText}
+use Rattle.record_text.specs.Text.{useWord, linesText, formText}
 use Rattle.forms.specs.Form.{readAt, _>>=_, either, literal}
 use Rattle.forms.specs.Decimals.{mayBegin, mayFollow, afterWithin, after, decimal}
 use Rattle.forms.specs.Words.{oneOf}
 use Rattle.record_reader.specs.Lines.{useForm, algorithmForm, keyForm}
 use Rattle.forms.specs.Hexes.{isHex, hexValue, byte, bytes}
-use Rattle.record_reader.specs.Record.{recordForm, recordRead}
+use Rattle.record_reader.specs.Record.{linesForm, recordForm, startsForm, recordRead}
 use Rattle.lines.specs.Line.{lineEnds, lineOf, columnAfter, columnOf}
 use Rattle.record_writer.specs.Written.{writeRefusal, recordWritten, bufferWritten}
 use Rattle.plan.specs.Plan.{planRefusal, plannedPieces, planOf}
@@ -54,5 +54,5 @@ at-row (r ∷ rows) t (suc k) h = at-row rows (pass-right (same (r .given) (r .s
 
 -- every row of the table holds
 pub p-values : (k : ℕ) → k < length pTable → getD pTable k (row [] []) .given ≡ getD pTable k (row [] []) .said
-unfolding pTable allSame same times inverse affine sBox combining fTea6 expandedByte mixedValue sequence window tabulate blocksUsed moveRefusalOf hasBad isBad isFilled isEmpty allZero planOf planRefusal plannedPieces digitsWithin digits nameOf digitOf useWord hexDigit hexText recordText readAt _>>=_ either literal mayBegin mayFollow afterWithin after decimal oneOf useForm algorithmForm isHex hexValue byte bytes keyForm recordForm recordRead lineEnds lineOf columnAfter columnOf writeRefusal recordWritten bufferWritten
+unfolding pTable allSame same times inverse affine sBox combining fTea6 expandedByte mixedValue sequence window tabulate blocksUsed moveRefusalOf hasBad isBad isFilled isEmpty allZero planOf planRefusal plannedPieces digitsWithin digits nameOf digitOf useWord hexDigit hexText linesText formText readAt _>>=_ either literal mayBegin mayFollow afterWithin after decimal oneOf useForm algorithmForm isHex hexValue byte bytes keyForm linesForm recordForm startsForm recordRead lineEnds lineOf columnAfter columnOf writeRefusal recordWritten bufferWritten
 p-values = at-row pTable tt

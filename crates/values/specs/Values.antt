@@ -1,4 +1,4 @@
--- The values that document 01 marks P ("Values to hold"), the plan's as request [3] of document 02 has it, and the column of [5]: one table. Assumes nothing: these are definitions.
+-- The values that document 01 marks P ("Values to hold"), the plan's as request [3] of document 02 has it, the column of [5], and the record in form 2 of [6]: one table. Assumes nothing: these are definitions.
 use mathlib.Core.List.{List, [], _∷_, _++_}
 use Prim.Native.Nat.{ℕ}
 use lib.ListN.{getD, replicate}
@@ -35,22 +35,29 @@ lastOne = replicate 9 0 ++ (1 ∷ [])
 -- a table whose slot 1 is filled, with this use
 abbrev one : ℕ → List Slot
 one usage =
-    record { fields = record { version = 0; algorithm = 5; usage = usage; side = 0; place = 0 }; key = replicate 24 1 } ∷ replicate 31 empty
+    record { fields = record { version = 0; algorithm = 5; usage = usage; side = 0; place = 0; mcc = 0; mnc = 0 }; key = replicate 24 1 } ∷ replicate 31 empty
 
--- the record that document 01 prints
+-- the record that document 01 prints: the lines of form 1, and in form 2, of network 0, 0
+abbrev firstLines : List ℕ
+firstLines = ascii "number=3\nversion=17\nalg=TEA6\nuse=SEND\nside=0\nplace=28\n"
+
+abbrev keyLine : List ℕ
+keyLine = ascii "key=000000000000000000000000000000000000000000000001\n"
+
+abbrev old : List ℕ
+old = firstLines ++ keyLine
+
 abbrev sample : List ℕ
-sample =
-    ascii "number=3\nversion=17\nalg=TEA6\nuse=SEND\nside=0\nplace=28\nkey=000000000000000000000000000000000000000000000001\n"
+sample = ascii "form=2\n" ++ (firstLines ++ (ascii "mcc=0\nmnc=0\n" ++ keyLine))
 
--- the same with a version that is too large
+-- a version that is too large
 abbrev tooLarge : List ℕ
-tooLarge =
-    ascii "number=3\nversion=65536\nalg=TEA6\nuse=SEND\nside=0\nplace=28\nkey=000000000000000000000000000000000000000000000001\n"
+tooLarge = ascii "number=3\nversion=65536\n"
 
 -- what reading answers: refusal, line, column, bytes used, number, fields and key
 abbrev readNumbers : RecordRead → List ℕ
 readNumbers r =
-    r .refusal ∷ r .line ∷ r .column ∷ r .used ∷ r .number ∷ r .fields .version ∷ r .fields .algorithm ∷ r .fields .usage ∷ r .fields .side ∷ r .fields .place ∷ r .key
+    r .refusal ∷ r .line ∷ r .column ∷ r .used ∷ r .number ∷ r .fields .version ∷ r .fields .algorithm ∷ r .fields .usage ∷ r .fields .side ∷ r .fields .place ∷ r .fields .mcc ∷ r .fields .mnc ∷ r .key
 
 -- what writing answers of what was read: refusal and length, and then what the buffer holds
 abbrev writtenNumbers : RecordRead → List ℕ → List ℕ
@@ -75,8 +82,10 @@ pTable =
     ∷ row (expandedByte lastOne 10 ∷ expandedByte lastOne 11 ∷ expandedByte lastOne 12 ∷ []) (0xd7 ∷ 0x3f ∷ 0x8b ∷ [])
     ∷ row (blocksUsed 0 256 ∷ blocksUsed 0 257 ∷ blocksUsed 0 8288 ∷ blocksUsed 255 2 ∷ []) (1 ∷ 2 ∷ 33 ∷ 2 ∷ [])
     ∷ row (moveRefusal (one 1) 1 2 3 ∷ moveRefusal (one 3) 1 2 1 ∷ moveRefusal (one 1) 1 2 2 ∷ []) (14 ∷ 0 ∷ 14 ∷ [])
-    ∷ row (readNumbers (recordRead sample)) (0 ∷ 0 ∷ 0 ∷ 107 ∷ 3 ∷ 17 ∷ 6 ∷ 1 ∷ 0 ∷ 28 ∷ replicate 23 0 ++ (1 ∷ []))
-    ∷ row (writtenNumbers (recordRead sample) (replicate 107 0 ++ kept)) (0 ∷ 107 ∷ sample ++ kept)
-    ∷ row (readNumbers (recordRead tooLarge)) (15 ∷ 2 ∷ 13 ∷ replicate 31 0)
+    ∷ row (readNumbers (recordRead old)) (0 ∷ 0 ∷ 0 ∷ 107 ∷ 3 ∷ 17 ∷ 6 ∷ 1 ∷ 0 ∷ 28 ∷ 0 ∷ 0 ∷ replicate 23 0 ++ (1 ∷ []))
+    ∷ row (readNumbers (recordRead sample)) (0 ∷ 0 ∷ 0 ∷ 126 ∷ 3 ∷ 17 ∷ 6 ∷ 1 ∷ 0 ∷ 28 ∷ 0 ∷ 0 ∷ replicate 23 0 ++ (1 ∷ []))
+    ∷ row (writtenNumbers (recordRead sample) (replicate 126 0 ++ kept)) (0 ∷ 126 ∷ sample ++ kept)
+    ∷ row (writtenNumbers (recordRead old) (replicate 126 0 ++ kept)) (0 ∷ 126 ∷ sample ++ kept)
+    ∷ row (readNumbers (recordRead tooLarge)) (15 ∷ 2 ∷ 13 ∷ replicate 33 0)
     ∷ row (planNumbers (planOf 1 3 0 124 10 50)) (0 ∷ 10 ∷ 24 ∷ 0 ∷ 50 ∷ 74 ∷ 41 ∷ [])
     ∷ []

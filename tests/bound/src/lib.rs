@@ -31,6 +31,8 @@ fn asked(algorithm: u64, place: u64) -> Asked {
         usage: BOTH,
         side: 0,
         place,
+        mcc: 0,
+        mnc: 0,
     }
 }
 

@@ -76,7 +76,7 @@ enum {
 #define IS(fault) (BREAK == (fault))
 
 uint8_t WRAP(load)(struct card_slot *table, size_t slots, uint64_t number, uint16_t version, uint64_t algorithm,
-                   uint64_t usage, uint64_t side, uint64_t place, const uint8_t *key)
+                   uint64_t usage, uint64_t side, uint64_t place, uint64_t mcc, uint64_t mnc, const uint8_t *key)
 {
     static const uint8_t zeros[CARD_KEY_BYTES];
 
@@ -84,7 +84,7 @@ uint8_t WRAP(load)(struct card_slot *table, size_t slots, uint64_t number, uint1
         return CARD_CODE;
     if (IS(SLOTS_CUT))
         slots = (uint32_t)slots;
-    return REAL(load)(table, slots, number, version, algorithm, usage, side, place, key);
+    return REAL(load)(table, slots, number, version, algorithm, usage, side, place, mcc, mnc, key);
 }
 
 uint8_t WRAP(move)(struct card_slot *table, size_t slots, uint64_t from, uint64_t to, uint64_t asked)
@@ -121,10 +121,11 @@ static const uint8_t *mended(const uint8_t *text, size_t bytes, size_t place, ui
 }
 
 uint8_t WRAP(read)(const struct card_slot *table, size_t slots, uint64_t number, uint64_t *found, uint16_t *version,
-                   uint8_t *algorithm, uint8_t *usage, uint8_t *side, uint8_t *place)
+                   uint8_t *algorithm, uint8_t *usage, uint8_t *side, uint8_t *place,
+                   uint16_t *mcc, uint16_t *mnc)
 {
     uint16_t before = *version;
-    uint8_t answer = REAL(read)(table, slots, number, found, version, algorithm, usage, side, place);
+    uint8_t answer = REAL(read)(table, slots, number, found, version, algorithm, usage, side, place, mcc, mnc);
 
     if (IS(MISREADS_ODD_TABLE) && (uintptr_t)table % 4 != 0)
         *version ^= 1;
@@ -262,9 +263,11 @@ uint8_t WRAP(record_read)(const uint8_t *text, size_t text_bytes, uint64_t *show
 }
 
 uint8_t WRAP(record_write)(uint64_t number, uint16_t version, uint64_t algorithm, uint64_t usage, uint64_t side,
-                           uint64_t place, const uint8_t *key, uint8_t *buffer, size_t bytes, size_t *length)
+                           uint64_t place, uint64_t mcc, uint64_t mnc, const uint8_t *key, uint8_t *buffer, size_t bytes,
+                           size_t *length)
 {
-    uint8_t answer = REAL(record_write)(number, version, algorithm, usage, side, place, key, buffer, bytes, length);
+    uint8_t answer = REAL(record_write)(number, version, algorithm, usage, side, place, mcc, mnc, key, buffer, bytes,
+                                        length);
 
     if (IS(RECORD_AND_ONE_BYTE) && answer == CARD_DONE && *length < bytes)
         buffer[*length] = 0;

@@ -12,7 +12,7 @@ use second::slots::Fields;
 pub unsafe extern "C" fn oracle_record_read(
     text: *const u8,
     text_bytes: usize,
-    shown: *mut [u64; 6],
+    shown: *mut [u64; 8],
     key: *mut Key,
     used: *mut usize,
     line: *mut usize,
@@ -27,6 +27,8 @@ pub unsafe extern "C" fn oracle_record_read(
         fields.usage,
         fields.side,
         fields.place,
+        fields.mcc,
+        fields.mnc,
     ];
     *key = read.key;
     *used = read.length as usize;
@@ -45,6 +47,8 @@ pub unsafe extern "C" fn oracle_record_write(
     usage: u64,
     side: u64,
     place: u64,
+    mcc: u64,
+    mnc: u64,
     key: *const Key,
     buffer: *mut u8,
     buffer_bytes: usize,
@@ -56,6 +60,8 @@ pub unsafe extern "C" fn oracle_record_write(
         usage,
         side,
         place,
+        mcc,
+        mnc,
     };
     let buffer = from_raw_parts_mut(buffer, buffer_bytes);
     let written = records::write(number, &fields, &*key, buffer);

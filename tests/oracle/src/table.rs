@@ -15,6 +15,8 @@ pub struct LentSlot {
     usage: u8,
     side: u8,
     place: u8,
+    mcc: u16,
+    mnc: u16,
     key: Key,
 }
 
@@ -28,6 +30,8 @@ unsafe fn taken(table: *const LentSlot, slots: usize) -> Vec<Slot> {
             usage: lent.usage.into(),
             side: lent.side.into(),
             place: lent.place.into(),
+            mcc: lent.mcc.into(),
+            mnc: lent.mnc.into(),
             key: lent.key,
         })
         .collect()
@@ -44,6 +48,8 @@ unsafe fn give_back(table: *mut LentSlot, changed: &[Slot]) {
             usage: slot.usage as u8,
             side: slot.side as u8,
             place: slot.place as u8,
+            mcc: slot.mcc as u16,
+            mnc: slot.mnc as u16,
             key: slot.key,
         };
     }
@@ -72,6 +78,8 @@ pub unsafe extern "C" fn oracle_load(
     usage: u64,
     side: u64,
     place: u64,
+    mcc: u64,
+    mnc: u64,
     key: *const Key,
 ) -> u8 {
     let fields = Fields {
@@ -80,6 +88,8 @@ pub unsafe extern "C" fn oracle_load(
         usage,
         side,
         place,
+        mcc,
+        mnc,
     };
     change(table, slots, |table| {
         slots::load(table, number, &fields, &*key)
@@ -121,6 +131,8 @@ pub unsafe extern "C" fn oracle_read(
     usage: *mut u8,
     side: *mut u8,
     place: *mut u8,
+    mcc: *mut u16,
+    mnc: *mut u16,
 ) -> u8 {
     let read = slots::read(&taken(table, slots), number);
     *found = read.number;
@@ -129,6 +141,8 @@ pub unsafe extern "C" fn oracle_read(
     *usage = read.fields.usage as u8;
     *side = read.fields.side as u8;
     *place = read.fields.place as u8;
+    *mcc = read.fields.mcc as u16;
+    *mnc = read.fields.mnc as u16;
     read.refusal as u8
 }
 

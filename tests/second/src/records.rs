@@ -1,20 +1,22 @@
 //! Key records as text, and the program `slotlist` as a function from its input to its output.
 //!
-//! A record is seven lines `name=value`, each ended by one LF: number, version, alg, use, side, place,
-//! key. It is wrong at the first byte with which no good record can go on.
+//! A record of form 1 is seven lines `name=value`, each ended by one LF: number, version, alg, use, side, place,
+//! key. Form 2 has `form=2` before them, and mcc and mnc between place and key. Both are read, and form 2 is written.
+//! A text is wrong at the first byte with which no good record of either form can go on.
 
 use crate::hex::{hex_value, to_hex};
 use crate::refusals::*;
 use crate::rijndael::{Key, KEY_BYTES};
 use crate::slots::{
-    empty_table, load, read as read_slot, slot_index, Fields, Slot, LAST_PLACE, SLOTS,
+    empty_table, load, read as read_slot, slot_index, Fields, Slot, LAST_MCC, LAST_MNC, LAST_PLACE,
+    SLOTS,
 };
 
 /// What `slotlist` reads of its input.
-const SLOTLIST_BYTES: usize = 4096;
+const SLOTLIST_BYTES: usize = 8192;
 
 /// Room for every listing.
-const LISTING_BYTES: usize = 2048;
+const LISTING_BYTES: usize = 2560;
 
 const ALGORITHM_NAMES: [&str; 3] = ["TEA5", "TEA6", "TEA7"];
 const USE_NAMES: [&str; 3] = ["SEND", "RECV", "BOTH"];
@@ -51,12 +53,23 @@ pub fn parse(input: &[u8]) -> Result<Record, Fault> {
         line: 0,
         line_start: 0,
     };
+    // No line of form 1 begins with an f, and the first of form 2 does.
+    let of_form_2 = input.first() == Some(&b'f');
+    if of_form_2 {
+        reader.begin_line("form=2")?;
+        reader.end_line()?;
+    }
     let number = reader.number_line("number=", 1, SLOTS as u64)?;
     let version = reader.number_line("version=", 0, u64::from(u16::MAX))?;
     let algorithm = FIRST_ALGORITHM + reader.name_line("alg=", &ALGORITHM_NAMES)?;
     let usage = FIRST_USE + reader.name_line("use=", &USE_NAMES)?;
     let side = reader.number_line("side=", 0, 1)?;
     let place = reader.number_line("place=", 0, LAST_PLACE)?;
+    let (mut mcc, mut mnc) = (0, 0);
+    if of_form_2 {
+        mcc = reader.number_line("mcc=", 0, LAST_MCC)?;
+        mnc = reader.number_line("mnc=", 0, LAST_MNC)?;
+    }
     let key = reader.key_line("key=")?;
     Ok(Record {
         number,
@@ -66,6 +79,8 @@ pub fn parse(input: &[u8]) -> Result<Record, Fault> {
             usage,
             side,
             place,
+            mcc,
+            mnc,
         },
         key,
         length: reader.place,
@@ -202,7 +217,7 @@ pub struct WriteAnswer {
     pub length: u64,
 }
 
-/// Puts a record's text at the front of the buffer. Refusals 7, 1, 10, 11, 17.
+/// Puts a record's text of form 2 at the front of the buffer. Refusals 7, 1, 10, 11, 20, 17.
 pub fn write(number: u64, fields: &Fields, key: &Key, buffer: &mut [u8]) -> WriteAnswer {
     match fitting_text(number, fields, key, buffer.len()) {
         Ok(text) => {
@@ -220,7 +235,7 @@ fn fitting_text(number: u64, fields: &Fields, key: &Key, room: usize) -> Result<
     slot_index(number)?;
     fields.check()?;
     let shown = shown_fields(number, fields).join("\n");
-    let text = format!("{shown}\nkey={}\n", to_hex(key));
+    let text = format!("form=2\n{shown}\nkey={}\n", to_hex(key));
     if text.len() > room {
         return Err(RECORD_TOO_LONG);
     }
@@ -228,7 +243,7 @@ fn fitting_text(number: u64, fields: &Fields, key: &Key, room: usize) -> Result<
 }
 
 /// `name=value` for the number and each field in range, in the order of a record.
-fn shown_fields(number: u64, fields: &Fields) -> [String; 6] {
+fn shown_fields(number: u64, fields: &Fields) -> [String; 8] {
     let algorithm = ALGORITHM_NAMES[(fields.algorithm - FIRST_ALGORITHM) as usize];
     let usage = USE_NAMES[(fields.usage - FIRST_USE) as usize];
     [
@@ -238,6 +253,8 @@ fn shown_fields(number: u64, fields: &Fields) -> [String; 6] {
         format!("use={usage}"),
         format!("side={}", fields.side),
         format!("place={}", fields.place),
+        format!("mcc={}", fields.mcc),
+        format!("mnc={}", fields.mnc),
     ]
 }
 

@@ -32,3 +32,5 @@ pub const RECORD_TOO_LONG: Refusal = 17;
 /// Kind, state or flag unknown, or a PDU above 8,288 bits.
 pub const PDU_UNKNOWN: Refusal = 18;
 pub const PDU_PARTS_DO_NOT_FIT: Refusal = 19;
+/// A mobile country code or a mobile network code.
+pub const NETWORK_OUT_OF_RANGE: Refusal = 20;

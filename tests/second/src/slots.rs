@@ -17,6 +17,10 @@ pub const KEEP_USE: u64 = 0;
 /// The highest number of a bit of the initial value.
 pub const LAST_PLACE: u64 = 79;
 
+/// The highest mobile country code, of 10 bits, and mobile network code, of 14.
+pub const LAST_MCC: u64 = 1023;
+pub const LAST_MNC: u64 = 16383;
+
 /// What may be shown of a slot. The version is 16 bits by its kind; the other numbers are tested.
 #[derive(Clone, Copy, Debug, Default, PartialEq, Eq)]
 pub struct Fields {
@@ -25,10 +29,12 @@ pub struct Fields {
     pub usage: u64,
     pub side: u64,
     pub place: u64,
+    pub mcc: u64,
+    pub mnc: u64,
 }
 
 impl Fields {
-    /// Refusals 1, 10, 11.
+    /// Refusals 1, 10, 11, 20.
     pub fn check(&self) -> Result<(), Refusal> {
         if Algorithm::from_number(self.algorithm).is_none() {
             return Err(ALGORITHM_UNKNOWN);
@@ -38,6 +44,9 @@ impl Fields {
         }
         if self.side > 1 || self.place > LAST_PLACE {
             return Err(SIDE_OR_PLACE_OUT_OF_RANGE);
+        }
+        if self.mcc > LAST_MCC || self.mnc > LAST_MNC {
+            return Err(NETWORK_OUT_OF_RANGE);
         }
         Ok(())
     }
@@ -51,6 +60,8 @@ pub struct Slot {
     pub usage: u64,
     pub side: u64,
     pub place: u64,
+    pub mcc: u64,
+    pub mnc: u64,
     pub key: Key,
 }
 
@@ -68,6 +79,8 @@ impl Slot {
         usage: 0,
         side: 0,
         place: 0,
+        mcc: 0,
+        mnc: 0,
         key: [0; KEY_BYTES],
     };
 
@@ -78,6 +91,8 @@ impl Slot {
             usage: fields.usage,
             side: fields.side,
             place: fields.place,
+            mcc: fields.mcc,
+            mnc: fields.mnc,
             key: *key,
         }
     }
@@ -97,6 +112,8 @@ impl Slot {
             usage: self.usage,
             side: self.side,
             place: self.place,
+            mcc: self.mcc,
+            mnc: self.mnc,
         })
     }
 }

@@ -27,6 +27,8 @@ pub fn fields(algorithm: Algorithm, usage: Use) -> Fields {
         usage,
         side: 0,
         place: 28,
+        mcc: 262,
+        mnc: 1001,
     }
 }
 
@@ -52,6 +54,8 @@ pub fn second_fields(asked: Asked) -> SecondFields {
         usage: asked.usage,
         side: asked.side,
         place: asked.place,
+        mcc: asked.mcc,
+        mnc: asked.mnc,
     }
 }
 

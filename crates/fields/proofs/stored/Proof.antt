@@ -1,7 +1,7 @@
--- `fields::stored`: a field in its range fits a byte. Assumes nothing.
+-- `fields::stored`: a field in its range fits its kind. Assumes nothing.
 use native.Mathlib.Omega.{arith}
 use borrow.Author.Needs.{needs}
-use Rattle.fields.proofs.Ranges.{algorithm-high, use-high, side-high, place-high}
+use Rattle.fields.proofs.Ranges.{algorithm-high, use-high, side-high, place-high, mcc-high, mnc-high}
 use Rattle.fields.proofs.stored.Statement.{statement}
 use Rattle.fields.proofs.stored.Tie as tie
 
@@ -17,5 +17,11 @@ cast-t4 c = omega (arith, side-high (c .before .before .before .args .a) (c .bef
 cast-t5 : tie.Need-cast-t5
 cast-t5 c = omega (arith, place-high (c .before .before .before .before .args .a) (c .before .before .before .before .pre))
 
+cast-t6 : tie.Need-cast-t6
+cast-t6 c = omega (arith, mcc-high (c .before .before .before .before .before .args .a) (c .before .before .before .before .before .pre))
+
+cast-t7 : tie.Need-cast-t7
+cast-t7 c = omega (arith, mnc-high (c .before .before .before .before .before .before .args .a) (c .before .before .before .before .before .before .pre))
+
 pub stored-spec : {M : Type 1} → statement M
-stored-spec = tie.close (tie.spec cast-t2 cast-t3 cast-t4 cast-t5 (λ c. search needs))
+stored-spec = tie.close (tie.spec cast-t2 cast-t3 cast-t4 cast-t5 cast-t6 cast-t7 (λ c. search needs))

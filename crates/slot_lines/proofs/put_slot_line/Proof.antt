@@ -26,11 +26,8 @@ version c = c .before .before .before .before .before .before .before
 abbrev algorithm : tie.After-put-word-item2 → tie.After-put-word-item
 algorithm c = c .before .before .before .before .before .before .before
 
-abbrev usage : tie.After-put-item3 → tie.After-put-word-item2
-usage c = c .before .before .before .before .before .before
-
-abbrev side : tie.After-put-line → tie.After-put-item3
-side c = c .before .before .before .before .before .before
+abbrev usage : tie.After-put-codes → tie.After-put-word-item2
+usage c = c .before .before .before .before
 
 short : (c : tie.After-struct-known) → length (slotLine (c .before .before .args .number) (c .before .before .args .f)) ≤ longestLine
 short c = let pre = c .before .before .pre in line-short _ (c .before .before .args .f) (pre .1) (search needs) (pre .2)
@@ -66,35 +63,21 @@ put-word-item-requires-2 c κs =
     room-as (sym (ap (item " use=") (c .use-word .ensures)))
     (next-room _ (whole (start i1)) (left-next (left-next (left-next left-all (i1 .put-item .ensures)) (i2 .put-item2 .ensures)) p3))
 
-put-item-requires-3 : tie.Need-put-item-requires-3
+put-codes-requires : tie.Need-put-codes-requires
 unfolding slotLine
-put-item-requires-3 c κs =
-    let i4 = c .before .before .before .before .before in
+put-codes-requires c κs =
+    let i4 = c .before .before .before in
     let i3 = algorithm i4 in
     let i2 = version i3 in
     let i1 = number i2 in
     let p3 = put-as (ap (item " alg=") (i3 .before .name .ensures)) (i3 .put-word-item .ensures) in
     let p4 = put-as (ap (item " use=") (i4 .before .use-word .ensures)) (i4 .put-word-item2 .ensures) in
-    next-room _ (whole (start i1)) (left-next (left-next (left-next (left-next left-all (i1 .put-item .ensures)) (i2 .put-item2 .ensures)) p3) p4)
-
-put-line-requires : tie.Need-put-line-requires
-unfolding slotLine
-put-line-requires c κs =
-    let i5 = c .before .before .before .before .before in
-    let i4 = usage i5 in
-    let i3 = algorithm i4 in
-    let i2 = version i3 in
-    let i1 = number i2 in
-    let p3 = put-as (ap (item " alg=") (i3 .before .name .ensures)) (i3 .put-word-item .ensures) in
-    let p4 = put-as (ap (item " use=") (i4 .before .use-word .ensures)) (i4 .put-word-item2 .ensures) in
-    left-room (whole (start i1))
-    (left-next (left-next (left-next (left-next (left-next left-all (i1 .put-item .ensures)) (i2 .put-item2 .ensures)) p3) p4) (i5 .put-item3 .ensures))
+    left-room (whole (start i1)) (left-next (left-next (left-next (left-next left-all (i1 .put-item .ensures)) (i2 .put-item2 .ensures)) p3) p4)
 
 returns : tie.Need-returns
 unfolding slotLine
 returns c =
-    let i6 = c .before .before in
-    let i5 = side i6 in
+    let i5 = c .before .before in
     let i4 = usage i5 in
     let i3 = algorithm i4 in
     let i2 = version i3 in
@@ -102,9 +85,7 @@ returns c =
     let p3 = put-as (ap (item " alg=") (i3 .before .name .ensures)) (i3 .put-word-item .ensures) in
     let p4 = put-as (ap (item " use=") (i4 .before .use-word .ensures)) (i4 .put-word-item2 .ensures) in
     let put =
-    left-last
-    (left-next (left-next (left-next (left-next (left-next left-all (i1 .put-item .ensures)) (i2 .put-item2 .ensures)) p3) p4) (i5 .put-item3 .ensures))
-    (i6 .put-line .ensures) in
+    left-last (left-next (left-next (left-next (left-next left-all (i1 .put-item .ensures)) (i2 .put-item2 .ensures)) p3) p4) (i5 .put-codes .ensures) in
     (omega (arith, put .ends, short (start i1)), put)
 
 pub put-slot-line-spec : {M : Type 1} → statement M
@@ -124,11 +105,6 @@ put-slot-line-spec =
     (λ c. search needs)
     (λ c κs. search needs)
     put-word-item-requires-2
-    (λ c. search needs)
-    (λ c. search needs)
-    put-item-requires-3
-    (λ c. search needs)
-    (λ c. search needs)
-    put-line-requires
+    put-codes-requires
     (λ c. put-length (returns c .1))
     returns)

@@ -154,7 +154,7 @@ module _ {M : Type 1} (𝓤 : URA M) (H : Heap 𝓤) (A : Atoms 𝓤) (W : Given
               stays ! (load ! (from ! (stop !)) (look ! 20 refl)) $
               assigns ! (bin ! (load ! (from ! (stop !)) (look ! 30 refl)) (lit ! tt) (record { fits = omega (arith, h) })) (from ! (stop !)) (init ! 16 refl (tt, record { fits = omega (arith, h) })) $
               assigns ! (bin ! (load ! (from ! (fld ! refl (stop !))) (look-in ! 34 (sub ! 0 refl (whole !)))) (load ! (from ! (stop !)) (look ! 16 refl)) tt) (from ! (stop !)) (init ! 14 refl (tt, tt)) $
-              rewrite ! 14 (λ (p : ℕ). ‵ (fat fullShare tyPtr l₁₁ 0 (vptr b p))) (sym (place-is 30 o (t .i))) refl $
+              rewrite ! 14 (λ (p : ℕ). ‵ (fat fullShare tyPtr l₁₁ 0 (vptr b p))) (sym (place-is 34 o (t .i))) refl $
               move ! (39 ∷ []) $ fsplit ! $ fsplit ! $ move ! (1 ∷ []) $ fsplit ! $ move ! (42 ∷ []) $ split ! $ move ! (3 ∷ 0 ∷ []) $
               looks-slice ! tt R (Is R) (shows 𝓤 H A R) vals tells (copies 𝓤 H A W) ys b o (λ q′. elem-out ! R (Is R) (shows 𝓤 H A R) vals tells q′ ys (t .i) nil b o within (λ g.
               -- [t[i]; what it owns; the others; what shuts; the fractured borrow; true; res; t's fact; true; _18; …; _0; …]
@@ -171,7 +171,7 @@ module _ {M : Type 1} (𝓤 : URA M) (H : Heap 𝓤) (A : Atoms 𝓤) (W : Given
               (λ _.
               assigns ! (bin ! (load ! (from ! (stop !)) (look ! 36 refl)) (lit ! tt) (record { fits = omega (arith, h) })) (from ! (stop !)) (init ! 16 refl (tt, record { fits = omega (arith, h) })) $
               assigns ! (bin ! (load ! (from ! (fld ! refl (stop !))) (look-in ! 40 (sub ! 0 refl (whole !)))) (load ! (from ! (stop !)) (look ! 16 refl)) tt) (from ! (stop !)) (init ! 14 refl (tt, tt)) $
-              rewrite ! 14 (λ (p : ℕ). ‵ (fat fullShare tyPtr l₁₄ 0 (vptr b p))) (sym (place-is 30 o (t .i))) refl $
+              rewrite ! 14 (λ (p : ℕ). ‵ (fat fullShare tyPtr l₁₄ 0 (vptr b p))) (sym (place-is 34 o (t .i))) refl $
               move ! (1 ∷ 0 ∷ []) $
               looks-slice ! tt R (Is R) (shows 𝓤 H A R) vals tells (copies 𝓤 H A W) ys b o (λ q₁. elem-out ! R (Is R) (shows 𝓤 H A R) vals tells q₁ ys (t .i) nil b o within (λ g₁.
               assigns ! (of-opd ! (load ! (from ! (hop ! (look ! 17 refl) (stop !))) (look-raw ! 0 refl))) (from ! (stop !)) (init ! 15 refl (typed 𝓤 H A W y _ g₁)) $
@@ -190,7 +190,7 @@ module _ {M : Type 1} (𝓤 : URA M) (H : Heap 𝓤) (A : Atoms 𝓤) (W : Given
               (λ shown.
               assigns ! (bin ! (load ! (from ! (stop !)) (look ! 36 refl)) (lit ! tt) (record { fits = omega (arith, h) })) (from ! (stop !)) (init ! 10 refl (tt, record { fits = omega (arith, h) })) $
               assigns ! (bin ! (load ! (from ! (fld ! refl (stop !))) (look-in ! 40 (sub ! 0 refl (whole !)))) (load ! (from ! (stop !)) (look ! 10 refl)) tt) (from ! (stop !)) (init ! 8 refl (tt, tt)) $
-              rewrite ! 8 (λ (p : ℕ). ‵ (fat fullShare tyPtr l₁₇ 0 (vptr b p))) (sym (place-is 30 o (t .i))) refl $
+              rewrite ! 8 (λ (p : ℕ). ‵ (fat fullShare tyPtr l₁₇ 0 (vptr b p))) (sym (place-is 34 o (t .i))) refl $
               move ! (1 ∷ 0 ∷ []) $
               looks-slice ! tt R (Is R) (shows 𝓤 H A R) vals tells (copies 𝓤 H A W) ys b o (λ q₂. elem-out ! R (Is R) (shows 𝓤 H A R) vals tells q₂ ys (t .i) nil b o within (λ g₂.
               assigns ! (of-opd ! (load ! (from ! (hop ! (look ! 11 refl) (stop !))) (look-raw ! 0 refl))) (from ! (stop !)) (init ! 9 refl (typed 𝓤 H A W y _ g₂)) $

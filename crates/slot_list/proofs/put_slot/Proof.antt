@@ -108,7 +108,7 @@ module _ {M : Type 1} (𝓤 : URA M) (H : Heap 𝓤) (A : Atoms 𝓤) (W : Given
           land ! (from ! (stop !)) (init ! 4 refl (typed 𝓤 H A W z v is)) $
           assigns ! (bin ! (load ! (from ! (stop !)) (look ! 10 refl)) (lit ! tt) (record { fits = omega (arith, room .1, within) })) (from ! (stop !)) (init ! 2 refl (tt, record { fits = omega (arith, room .1, within) })) $
           assigns ! (bin ! (load ! (from ! (fld ! refl (stop !))) (look-in ! 16 (sub ! 0 refl (whole !)))) (load ! (from ! (stop !)) (look ! 2 refl)) tt) (from ! (stop !)) (init ! 0 refl (tt, tt)) $
-          rewrite ! 0 (λ (p : ℕ). ‵ (fat fullShare tyPtr l₉ 0 (vptr b p))) (sym (place-is 30 o i)) refl $
+          rewrite ! 0 (λ (p : ℕ). ‵ (fat fullShare tyPtr l₉ 0 (vptr b p))) (sym (place-is 34 o i)) refl $
           move ! (20 ∷ 21 ∷ 22 ∷ []) $ opens-slice ! tt R ys b o $ elem-out ! R (Is R) (shows 𝓤 H A R) vals tells fullShare ys i nil b o within (λ _.
           -- [t[i]; what it owns; the others; the open borrow; obs; auth; _9; …; _0; …]
           assigns-last ! (of-opd ! (load ! (from ! (stop !)) (look ! 10 refl))) (from ! (hop ! (look ! 6 refl) (stop !))) (store-raw ! 0 refl (typed 𝓤 H A W z v is)) $ exec ! C Λ E body.t-6 (atRet E Post) $

@@ -22,7 +22,15 @@ pub const CHECKS: &[Check] = &[
 const SHEET: &str = "number=3\nversion=17\nalg=TEA6\nuse=SEND\nside=0\nplace=28\n\
     key=000000000000000000000000000000000000000000000001\n";
 
-/// The longest record.
+/// The same in form 2, as it is written.
+const NEW_SHEET: &str =
+    "form=2\nnumber=3\nversion=17\nalg=TEA6\nuse=SEND\nside=0\nplace=28\nmcc=0\nmnc=0\n\
+    key=000000000000000000000000000000000000000000000001\n";
+
+/// The longest record of form 2, and of form 1.
+const LONGEST: &str =
+    "form=2\nnumber=32\nversion=65535\nalg=TEA7\nuse=BOTH\nside=1\nplace=79\nmcc=1023\nmnc=16383\n\
+    key=0123456789abcdef0123456789abcdef0123456789abcdef\n";
 const LONG_SHEET: &str = "number=32\nversion=65535\nalg=TEA7\nuse=BOTH\nside=1\nplace=79\n\
     key=0123456789abcdef0123456789abcdef0123456789abcdef\n";
 
@@ -40,6 +48,8 @@ fn record_of_the_rules() -> Finding {
             usage: SEND,
             side: 0,
             place: 28,
+            mcc: 0,
+            mnc: 0,
         },
         key,
         length: SHEET.len() as u64,
@@ -51,7 +61,12 @@ fn record_of_the_rules() -> Finding {
     let written = write(3, &wanted.fields, &key, &mut buffer);
     same("written", written.refusal, DONE)?;
     let text = &buffer[..written.length as usize];
-    same("text", String::from_utf8_lossy(text), SHEET.into())?;
+    same("text", String::from_utf8_lossy(text), NEW_SHEET.into())?;
+    let read_back = ReadRecordAnswer {
+        length: NEW_SHEET.len() as u64,
+        ..wanted
+    };
+    same("read in form 2", read(NEW_SHEET.as_bytes()), read_back)?;
     let after = &buffer[written.length as usize..];
     same(
         "bytes after it",
@@ -64,14 +79,18 @@ fn record_lengths() -> Finding {
     let shortest = Fields {
         version: 0,
         place: 9,
+        mcc: 9,
+        mnc: 0,
         ..FIELDS
     };
     let longest = Fields {
         version: 10000,
         place: 10,
+        mcc: 1000,
+        mnc: 10000,
         ..FIELDS
     };
-    for (number, fields, length) in [(9, shortest, 105), (10, longest, 111)] {
+    for (number, fields, length) in [(9, shortest, 124), (10, longest, 137)] {
         let mut buffer = vec![0; length];
         let exact = write(number, &fields, &KEY, &mut buffer);
         same(
@@ -97,9 +116,11 @@ fn written_and_read_back() -> Finding {
             usage: generator.between(1, 3),
             side: generator.below(2),
             place: generator.below(80),
+            mcc: generator.below(1024),
+            mnc: generator.below(16384),
         };
         let (number, key) = (generator.between(1, SLOTS as u64), generator.array());
-        let mut buffer = [0; 111];
+        let mut buffer = [0; 137];
         let length = write(number, &fields, &key, &mut buffer).length;
         let wanted = ReadRecordAnswer {
             refusal: DONE,
@@ -138,7 +159,7 @@ fn write_order() -> Finding {
     let good = WriteCall {
         number: 32,
         fields: FIELDS,
-        buffer: vec![7; 111],
+        buffer: vec![7; 137],
     };
     same_order(
         &good,
@@ -147,6 +168,7 @@ fn write_order() -> Finding {
             (ALGORITHM_UNKNOWN, |call| call.fields.algorithm = u64::MAX),
             (CODE_UNKNOWN, |call| call.fields.usage = 4),
             (SIDE_OR_PLACE_OUT_OF_RANGE, |call| call.fields.side = 2),
+            (NETWORK_OUT_OF_RANGE, |call| call.fields.mcc = 1024),
             (RECORD_TOO_LONG, |call| call.buffer.clear()),
         ],
         WriteCall::outcome,
@@ -154,7 +176,7 @@ fn write_order() -> Finding {
 }
 
 /// Parts of the good sheet, what stands in their place, and the line and column where it is wrong.
-const FAULTS: [(&str, &str, u64, u64); 24] = [
+const FAULTS: [(&str, &str, u64, u64); 33] = [
     ("number=3", "number=0", 1, 8),
     ("number=3", "number=33", 1, 9),
     ("number=3", "number=03", 1, 8),
@@ -179,12 +201,31 @@ const FAULTS: [(&str, &str, u64, u64); 24] = [
     ("0001\n", "00001\n", 7, 53),
     ("0001\n", "000A\n", 7, 52),
     ("0001\n", "0001", 7, 53),
+    // Of form 2.
+    ("form=2", "form=3", 1, 6),
+    ("form=2", "form=02", 1, 6),
+    ("form=2", "Form=2", 1, 1),
+    ("form=2\n", "form=2\r\n", 1, 7),
+    ("place=28\nmcc=0\n", "place=28\n", 8, 2),
+    ("mcc=0", "mcc=1024", 8, 8),
+    ("mnc=0", "mnc=16384", 9, 9),
+    ("mnc=0", "mnc=00", 9, 6),
+    ("mnc=0\n", "mnc=0\nmnc=0\n", 10, 1),
 ];
+
+/// The sheet that a fault is for.
+fn sheet_of(part: &str) -> &'static str {
+    if SHEET.contains(part) {
+        SHEET
+    } else {
+        NEW_SHEET
+    }
+}
 
 fn lines_of_faults() -> Finding {
     same("the sheet itself", read(SHEET.as_bytes()).refusal, DONE)?;
     for (part, spoiled, line, column) in FAULTS {
-        let text = SHEET.replace(part, spoiled);
+        let text = sheet_of(part).replace(part, spoiled);
         let wanted = ReadRecordAnswer {
             refusal: RECORD_BAD,
             line,
@@ -211,12 +252,15 @@ fn lines_of_faults() -> Finding {
     Ok(())
 }
 
-/// All the lines that good records have, but for the key's: a sorted list for each of the six names.
-struct GoodLines([Vec<String>; 6]);
+/// All the lines that good records have, but for the key's: for each form a sorted list for each of its names.
+struct GoodLines {
+    old: Vec<Vec<String>>,
+    new: Vec<Vec<String>>,
+}
 
 impl GoodLines {
     fn new() -> GoodLines {
-        let mut lists = [
+        let mut old = vec![
             numbered_lines("number", 1, 32),
             numbered_lines("version", 0, 65535),
             named_lines("alg", ["TEA5", "TEA6", "TEA7"]),
@@ -224,19 +268,28 @@ impl GoodLines {
             numbered_lines("side", 0, 1),
             numbered_lines("place", 0, 79),
         ];
-        lists.iter_mut().for_each(|lines| lines.sort());
-        GoodLines(lists)
+        old.iter_mut().for_each(|lines| lines.sort());
+        let mut new = old.clone();
+        new.insert(0, vec!["form=2\n".to_string()]);
+        new.push(numbered_lines("mcc", 0, 1023));
+        new.push(numbered_lines("mnc", 0, 16383));
+        new.iter_mut().for_each(|lines| lines.sort());
+        GoodLines { old, new }
     }
 
     /// Whether some good record begins with this text.
     fn begin(&self, text: &[u8]) -> bool {
-        let parts: Vec<&[u8]> = text.split_inclusive(|byte| *byte == b'\n').collect();
-        let fits = |(number, part): (usize, &&[u8])| match self.0.get(number) {
-            Some(lines) => begins_line(lines, part),
-            None => begins_key_line(part),
-        };
-        parts.len() <= 7 && parts.iter().enumerate().all(fits)
+        begins_form(&self.old, text) || begins_form(&self.new, text)
     }
+}
+
+fn begins_form(form: &[Vec<String>], text: &[u8]) -> bool {
+    let parts: Vec<&[u8]> = text.split_inclusive(|byte| *byte == b'\n').collect();
+    let fits = |(number, part): (usize, &&[u8])| match form.get(number) {
+        Some(lines) => begins_line(lines, part),
+        None => begins_key_line(part),
+    };
+    parts.len() <= form.len() + 1 && parts.iter().enumerate().all(fits)
 }
 
 fn numbered_lines(name: &str, low: u32, high: u32) -> Vec<String> {
@@ -274,9 +327,9 @@ fn begins_key_line(part: &[u8]) -> bool {
 /// Every byte of two sheets replaced: the reading stops exactly where no good record can go on.
 fn first_wrong_byte() -> Finding {
     let good = GoodLines::new();
-    for sheet in [SHEET, LONG_SHEET] {
+    for sheet in [SHEET, LONG_SHEET, NEW_SHEET, LONGEST] {
         for place in 0..sheet.len() {
-            for byte in b"\n\r =0123456789aAfgBESTVnk\xff" {
+            for byte in b"\n\r =0123456789aAfgBESTVnmok\xff" {
                 let mut text = sheet.as_bytes().to_vec();
                 text[place] = *byte;
                 stops_rightly(&good, &text)?;
@@ -292,7 +345,8 @@ fn stops_rightly(good: &GoodLines, text: &[u8]) -> Finding {
         Ok(record) => {
             same(&shown, good.begin(&text[..record.length]), true)?;
             let lines = text[..record.length].iter().filter(|byte| **byte == b'\n');
-            same(&shown, lines.count(), 7)
+            let of_form_2 = text.starts_with(b"form=2\n");
+            same(&shown, lines.count(), if of_form_2 { 10 } else { 7 })
         }
         Err(Fault {
             line,
@@ -326,8 +380,8 @@ fn texts_cut_short() -> Finding {
     same("empty input", (empty.line, empty.column), (1, 1))?;
     let ended = read(b"number=3\n");
     same("after a line", (ended.line, ended.column), (2, 1))?;
-    for length in 0..SHEET.len() {
-        let text = &SHEET.as_bytes()[..length];
+    for length in 0..NEW_SHEET.len() {
+        let text = &NEW_SHEET.as_bytes()[..length];
         let (line, column) = line_and_column(text);
         let wanted = Some(Fault {
             line,
@@ -348,11 +402,11 @@ fn sheet_numbered(number: usize) -> String {
 }
 
 fn slotlist_sheets() -> Finding {
-    let line = "number=3 version=17 alg=TEA6 use=SEND side=0 place=28\n";
+    let line = "number=3 version=17 alg=TEA6 use=SEND side=0 place=28 mcc=0 mnc=0\n";
     let wanted = format!("table=32\n{line}filled=1\n");
     same("the sheet of the rules", listed(SHEET), wanted)?;
     same("no record", listed(""), "table=32\nfilled=0\n".to_string())?;
-    let long_line = "number=32 version=65535 alg=TEA7 use=BOTH side=1 place=79\n";
+    let long_line = "number=32 version=65535 alg=TEA7 use=BOTH side=1 place=79 mcc=0 mnc=0\n";
     let wanted = format!("table=32\n{line}{long_line}filled=2\n");
     same(
         "in number order",

@@ -28,6 +28,8 @@ pub const FIELDS: Fields = Fields {
     usage: BOTH,
     side: 0,
     place: 28,
+    mcc: 262,
+    mnc: 1001,
 };
 
 /// Slot 1 for both uses, slot 2 for sending only, the rest empty.
@@ -79,6 +81,7 @@ fn load_order() -> Finding {
             (ALGORITHM_UNKNOWN, |call| call.fields.algorithm = 4),
             (CODE_UNKNOWN, |call| call.fields.usage = 0),
             (SIDE_OR_PLACE_OUT_OF_RANGE, |call| call.fields.place = 80),
+            (NETWORK_OUT_OF_RANGE, |call| call.fields.mnc = 16384),
             (TARGET_FILLED, |call| call.number = 1),
         ],
         LoadCall::outcome,
@@ -86,7 +89,12 @@ fn load_order() -> Finding {
 }
 
 fn load_ranges() -> Finding {
-    let cases: [Spoiler<LoadCall>; 17] = [
+    let cases: [Spoiler<LoadCall>; 22] = [
+        (DONE, |call| call.fields.mcc = 1023),
+        (NETWORK_OUT_OF_RANGE, |call| call.fields.mcc = 1024),
+        (NETWORK_OUT_OF_RANGE, |call| call.fields.mcc = 1 << 32),
+        (DONE, |call| call.fields.mnc = 16383),
+        (NETWORK_OUT_OF_RANGE, |call| call.fields.mnc = u64::MAX),
         (SLOT_NUMBER_UNKNOWN, |call| call.number = 0),
         (DONE, |call| call.number = 32),
         (SLOT_NUMBER_UNKNOWN, |call| call.number = u64::MAX),

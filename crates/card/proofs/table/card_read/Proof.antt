@@ -1,4 +1,4 @@
--- `card::table::card_read` meets its contract: a walk of its MIR, by hand. `is_no_table` and `slot_in` look at the lent table where it lies, and `show_from` has what they saw and the six places for the answer, for good. There are two lifetimes, κ of t and λ of the six places.
+-- `card::table::card_read` meets its contract: a walk of its MIR, by hand. `is_no_table` and `slot_in` look at the lent table where it lies, and `show_from` has what they saw and the eight places for the answer, for good. There are two lifetimes, κ of t and λ of the eight places.
 -- All that it knows of the three is that each meets its contract. Assumes nothing.
 use Rattle.walks.proofs.Walk.{_≡_, refl, _∙_, ℕ, _<_, _^_, List, [], _∷_, length, URA, named, w8, w64, Val, vint, vptr, SProp, ent, emp, via, fst∗, id⊢, Lft, GName, Share, ftrue, flft, Memory, Routine, Heap, Calls, Loops, WpFn, Tables, Atoms, Fun, givenOf, tables, tablesOf, Given, Item, ‵, raw, _⊛_, ⋆, _$_, _∵_, !, qed, by, move, drop, use1, use2, split, join, fsplit, suffices, frame, done, look, init, forget, stop, hop, from, load, addr, and-then, no-more, assigns, land, returns, enter, alloc1, alloc0, params1, pass1, pass0, free1, free0, FmC, fmOf, WpFn-mono, RattleType, owns, Is, uint-makes, uint-lawful, uint-vals, uint-tells, u8, u16, u64, RefT, MutRef, ptr-vals, mut-tells, ShrSlice, Room, slice-vals, shr-slice-tells, plainly, shrSliceOf, owned, Vals, onEntry, Meets, tripleOf, lasts, Contract, Triple, entered, cited, says, Stays, gave-ref, stay-dropped, walkOf, goes-gave-ref, goes-dropped, ends-at, walked, walk-meets, yes}
 use denote.RattleType.{Denots, Valss}
@@ -29,7 +29,7 @@ use Rattle.card.proofs.table.card_read.Statement as stated
 use Rattle.card.proofs.table.card_read.Code as code
 
 abbrev stayed : Stays (f.ended .signature .params) (f.ended .kept)
-stayed = (stay-dropped (shrSliceOf (0 ∷ []) tt (plainly (λ _. R))) yes, (stay-dropped (plainly (λ _. u64)) yes, (gave-ref (1 ∷ []) tt (plainly (λ _. u64)), (gave-ref (1 ∷ []) tt (plainly (λ _. u16)), (gave-ref (1 ∷ []) tt (plainly (λ _. u8)), (gave-ref (1 ∷ []) tt (plainly (λ _. u8)), (gave-ref (1 ∷ []) tt (plainly (λ _. u8)), (gave-ref (1 ∷ []) tt (plainly (λ _. u8)), tt))))))))
+stayed = (stay-dropped (shrSliceOf (0 ∷ []) tt (plainly (λ _. R))) yes, (stay-dropped (plainly (λ _. u64)) yes, (gave-ref (1 ∷ []) tt (plainly (λ _. u64)), (gave-ref (1 ∷ []) tt (plainly (λ _. u16)), (gave-ref (1 ∷ []) tt (plainly (λ _. u8)), (gave-ref (1 ∷ []) tt (plainly (λ _. u8)), (gave-ref (1 ∷ []) tt (plainly (λ _. u8)), (gave-ref (1 ∷ []) tt (plainly (λ _. u8)), (gave-ref (1 ∷ []) tt (plainly (λ _. u16)), (gave-ref (1 ∷ []) tt (plainly (λ _. u16)), tt))))))))))
 
 module _ {M : Type 1} (𝓤 : URA M) (H : Heap 𝓤) (A : Atoms 𝓤) (mem : Memory → SProp 𝓤) (run : Routine → Fun 𝓤) where
   abbrev Core : Contract 𝓤
@@ -39,19 +39,19 @@ module _ {M : Type 1} (𝓤 : URA M) (H : Heap 𝓤) (A : Atoms 𝓤) (mem : Mem
 abbrev place : RefT ℕ → Val
 place c = vptr (c .ptr .0) (c .ptr .1)
 
-module _ {M : Type 1} (𝓤 : URA M) (H : Heap 𝓤) (A : Atoms 𝓤) (W : Given 𝓤 H A) (mem : Memory → SProp 𝓤) (run : Routine → Fun 𝓤) (κ λ′ : Lft) (q p : Share) (b o : ℕ) (γ : GName) (ys : List Slot) (n : ℕ) (c₁ c₂ c₃ c₄ c₅ c₆ : RefT ℕ) (room : Room R (length ys)) (n-fits : n < 2 ^ 64) where
+module _ {M : Type 1} (𝓤 : URA M) (H : Heap 𝓤) (A : Atoms 𝓤) (W : Given 𝓤 H A) (mem : Memory → SProp 𝓤) (run : Routine → Fun 𝓤) (κ λ′ : Lft) (q p : Share) (b o : ℕ) (γ : GName) (ys : List Slot) (n : ℕ) (c₁ c₂ c₃ c₄ c₅ c₆ c₇ c₈ : RefT ℕ) (room : Room R (length ys)) (n-fits : n < 2 ^ 64) where
   -- the parameters after t, as the core takes them after the table
   abbrev Rest : List RattleType
-  Rest = u64 ∷ MutRef (named 1) λ′ u64 ∷ MutRef (named 1) λ′ u16 ∷ MutRef (named 1) λ′ u8 ∷ MutRef (named 1) λ′ u8 ∷ MutRef (named 1) λ′ u8 ∷ MutRef (named 1) λ′ u8 ∷ []
+  Rest = u64 ∷ MutRef (named 1) λ′ u64 ∷ MutRef (named 1) λ′ u16 ∷ MutRef (named 1) λ′ u8 ∷ MutRef (named 1) λ′ u8 ∷ MutRef (named 1) λ′ u8 ∷ MutRef (named 1) λ′ u8 ∷ MutRef (named 1) λ′ u16 ∷ MutRef (named 1) λ′ u16 ∷ []
 
   abbrev rest : Denots Rest
-  rest = (n, (c₁, (c₂, (c₃, (c₄, (c₅, (c₆, tt)))))))
+  rest = (n, (c₁, (c₂, (c₃, (c₄, (c₅, (c₆, (c₇, (c₈, tt)))))))))
 
   abbrev vals : Valss Rest
-  vals = (vint w64 n ∷ [], (place c₁ ∷ [], (place c₂ ∷ [], (place c₃ ∷ [], (place c₄ ∷ [], (place c₅ ∷ [], (place c₆ ∷ [], tt)))))))
+  vals = (vint w64 n ∷ [], (place c₁ ∷ [], (place c₂ ∷ [], (place c₃ ∷ [], (place c₄ ∷ [], (place c₅ ∷ [], (place c₆ ∷ [], (place c₇ ∷ [], (place c₈ ∷ [], tt)))))))))
 
   abbrev passed : List Val
-  passed = slice b o ys ∷ vint w64 n ∷ place c₁ ∷ place c₂ ∷ place c₃ ∷ place c₄ ∷ place c₅ ∷ place c₆ ∷ []
+  passed = slice b o ys ∷ vint w64 n ∷ place c₁ ∷ place c₂ ∷ place c₃ ∷ place c₄ ∷ place c₅ ∷ place c₆ ∷ place c₇ ∷ place c₈ ∷ []
 
   abbrev x : RefT (List Slot) × Denots Rest
   x = (lent b o ys γ, rest)
@@ -67,7 +67,7 @@ module _ {M : Type 1} (𝓤 : URA M) (H : Heap 𝓤) (A : Atoms 𝓤) (W : Given
   Ends = Lasts core.ended (λ′, tt) (isNoTable ys, (slotIn ys n, rest))
 
   abbrev Shows : ℕ → Ends → Shown
-  Shows r ws = shownAs r (ws .1 .1 .1 .0) (ws .1 .1 .1 .1 .0) (ws .1 .1 .1 .1 .1 .0) (ws .1 .1 .1 .1 .1 .1 .0) (ws .1 .1 .1 .1 .1 .1 .1 .0) (ws .1 .1 .1 .1 .1 .1 .1 .1 .0)
+  Shows r ws = shownAs r (ws .1 .1 .1 .0) (ws .1 .1 .1 .1 .0) (ws .1 .1 .1 .1 .1 .0) (ws .1 .1 .1 .1 .1 .1 .0) (ws .1 .1 .1 .1 .1 .1 .1 .0) (ws .1 .1 .1 .1 .1 .1 .1 .1 .0) (ws .1 .1 .1 .1 .1 .1 .1 .1 .1 .0) (ws .1 .1 .1 .1 .1 .1 .1 .1 .1 .1 .0)
 
   abbrev Has : Ends → List (Item 𝓤)
   Has ws = (‵ (flft κ q) ⊛ (‵ (flft λ′ p) ⊛ ‵ ftrue)) ∷ ‵ (lasts core.ended (λ′, tt) (isNoTable ys, (slotIn ys n, rest)) ws) ∷ []
@@ -75,7 +75,7 @@ module _ {M : Type 1} (𝓤 : URA M) (H : Heap 𝓤) (A : Atoms 𝓤) (W : Given
   exits : (r : ℕ) (w : Val) (ws : Ends) → Shows r ws ≡ shownIn ys n → Is u8 r (w ∷ []) → ent 𝓤 (⋆ 𝓤 H A (Has ws)) (Post w)
   exits r w ws e is =
       qed W (Has ws) ∵ move ! (1 ∷ []) $ fsplit ! $ drop ! $
-      suffices ! _ (ends-at 𝓤 H A f.ended stayed (f.clauses 𝓤 H A mem run) W (((κ, (λ′, tt)), (q, (p, tt)), tt, x, at), tt) w r (ws .1) (tt, (tt, (tt, (tt, (tt, (tt, (tt, (tt, tt))))))))) $ says ! e $
+      suffices ! _ (ends-at 𝓤 H A f.ended stayed (f.clauses 𝓤 H A mem run) W (((κ, (λ′, tt)), (q, (p, tt)), tt, x, at), tt) w r (ws .1) (tt, (tt, (tt, (tt, (tt, (tt, (tt, (tt, (tt, (tt, tt))))))))))) $ says ! e $
       move ! (1 ∷ []) $ frame ! $ owned ! u8 (Is u8) (uint-makes 𝓤 H A W w8) r (w ∷ []) is $ move ! (1 ∷ 0 ∷ []) $ done !
 
   -- what the core's triple binds outside
@@ -86,33 +86,35 @@ module _ {M : Type 1} (𝓤 : URA M) (H : Heap 𝓤) (A : Atoms 𝓤) (W : Given
     walk : ent 𝓤 (onEntry 𝓤 H A f.signature (κ, (λ′, tt)) (q, (p, tt)) x at) (WpFn 𝓤 H C Λ code.function passed Post)
     walk =
         qed W ((‵ (flft κ q) ⊛ (‵ (flft λ′ p) ⊛ ‵ ftrue)) ∷ ‵ (owns (ShrSlice (named 0) κ R ∷ Rest) x at) ∷ []) ∵ enter ! C Λ code.function passed _ $
-        alloc1 ! (λ l₀. alloc1 ! (λ l₁. alloc1 ! (λ l₂. alloc1 ! (λ l₃. alloc1 ! (λ l₄. alloc1 ! (λ l₅. alloc1 ! (λ l₆. alloc1 ! (λ l₇. alloc1 ! (λ l₈. alloc1 ! (λ l₉. alloc1 ! (λ l₁₀. alloc1 ! (λ l₁₁. alloc1 ! (λ l₁₂. alloc1 ! (λ l₁₃. alloc1 ! (λ l₁₄. alloc1 ! (λ l₁₅. alloc1 ! (λ l₁₆. alloc0 ! $ params1 ! $
-        pass1 ! (init ! 30 refl (tt, (tt, (record { fits = room .0 }, tt)))) $ pass1 ! (init ! 28 refl (tt, record { fits = n-fits })) $ pass1 ! (init ! 26 refl (tt, tt)) $ pass1 ! (init ! 24 refl (tt, tt)) $ pass1 ! (init ! 22 refl (tt, tt)) $ pass1 ! (init ! 20 refl (tt, tt)) $ pass1 ! (init ! 18 refl (tt, tt)) $ pass1 ! (init ! 16 refl (tt, tt)) $ pass0 ! $
-        -- [_16; …; _0; …; the tokens; what the parameters own]
-        move ! (35 ∷ []) $ fsplit ! $ move ! (36 ∷ []) $ split ! $ move ! (2 ∷ 0 ∷ []) $
-        -- [what t owns; the token of κ; the token of λ; what the others own; _16; …; _0; …]
-        asks-table ! mem run b o ys κ q γ fm ask-met (and-then ! (load ! (from ! (stop !)) (look ! 34 refl)) (no-more !)) (λ v is.
-        -- [the token of κ; what t owns; the token of λ; what the others own; _16; …; _0; …]
-        land ! (from ! (stop !)) (init ! 18 refl (bool-lawful 𝓤 H A W .typed (isNoTable ys) _ is .0)) $ move ! (1 ∷ 0 ∷ []) $
-        takes-slot ! mem run b o ys κ q γ n n-fits fm take-met (and-then ! (load ! (from ! (stop !)) (look ! 34 refl)) (and-then ! (load ! (from ! (stop !)) (look ! 32 refl)) (no-more !))) (λ w w-is.
-        land ! (from ! (stop !)) (init ! 16 refl (typed 𝓤 H A W (slotIn ys n) w w-is)) $ move ! (1 ∷ []) $ drop ! $
-        -- [the token of κ; the token of λ; what the others own; _16; …; _0; …]
-        assigns ! (addr ! (from ! (hop ! (look ! 29 refl) (stop !)))) (from ! (stop !)) (init ! 13 refl (tt, tt)) $
-        assigns ! (addr ! (from ! (hop ! (look ! 27 refl) (stop !)))) (from ! (stop !)) (init ! 11 refl (tt, tt)) $
-        assigns ! (addr ! (from ! (hop ! (look ! 25 refl) (stop !)))) (from ! (stop !)) (init ! 9 refl (tt, tt)) $
-        assigns ! (addr ! (from ! (hop ! (look ! 23 refl) (stop !)))) (from ! (stop !)) (init ! 7 refl (tt, tt)) $
-        assigns ! (addr ! (from ! (hop ! (look ! 21 refl) (stop !)))) (from ! (stop !)) (init ! 5 refl (tt, tt)) $
-        assigns ! (addr ! (from ! (hop ! (look ! 19 refl) (stop !)))) (from ! (stop !)) (init ! 3 refl (tt, tt)) $
+        alloc1 ! (λ l₀. alloc1 ! (λ l₁. alloc1 ! (λ l₂. alloc1 ! (λ l₃. alloc1 ! (λ l₄. alloc1 ! (λ l₅. alloc1 ! (λ l₆. alloc1 ! (λ l₇. alloc1 ! (λ l₈. alloc1 ! (λ l₉. alloc1 ! (λ l₁₀. alloc1 ! (λ l₁₁. alloc1 ! (λ l₁₂. alloc1 ! (λ l₁₃. alloc1 ! (λ l₁₄. alloc1 ! (λ l₁₅. alloc1 ! (λ l₁₆. alloc1 ! (λ l₁₇. alloc1 ! (λ l₁₈. alloc1 ! (λ l₁₉. alloc1 ! (λ l₂₀. alloc0 ! $ params1 ! $
+        pass1 ! (init ! 38 refl (tt, (tt, (record { fits = room .0 }, tt)))) $ pass1 ! (init ! 36 refl (tt, record { fits = n-fits })) $ pass1 ! (init ! 34 refl (tt, tt)) $ pass1 ! (init ! 32 refl (tt, tt)) $ pass1 ! (init ! 30 refl (tt, tt)) $ pass1 ! (init ! 28 refl (tt, tt)) $ pass1 ! (init ! 26 refl (tt, tt)) $ pass1 ! (init ! 24 refl (tt, tt)) $ pass1 ! (init ! 22 refl (tt, tt)) $ pass1 ! (init ! 20 refl (tt, tt)) $ pass0 ! $
+        -- [_20; …; _0; …; the tokens; what the parameters own]
+        move ! (43 ∷ []) $ fsplit ! $ move ! (44 ∷ []) $ split ! $ move ! (2 ∷ 0 ∷ []) $
+        -- [what t owns; the token of κ; the token of λ; what the others own; _20; …; _0; …]
+        asks-table ! mem run b o ys κ q γ fm ask-met (and-then ! (load ! (from ! (stop !)) (look ! 42 refl)) (no-more !)) (λ v is.
+        -- [the token of κ; what t owns; the token of λ; what the others own; _20; …; _0; …]
+        land ! (from ! (stop !)) (init ! 22 refl (bool-lawful 𝓤 H A W .typed (isNoTable ys) _ is .0)) $ move ! (1 ∷ 0 ∷ []) $
+        takes-slot ! mem run b o ys κ q γ n n-fits fm take-met (and-then ! (load ! (from ! (stop !)) (look ! 42 refl)) (and-then ! (load ! (from ! (stop !)) (look ! 40 refl)) (no-more !))) (λ w w-is.
+        land ! (from ! (stop !)) (init ! 20 refl (typed 𝓤 H A W (slotIn ys n) w w-is)) $ move ! (1 ∷ []) $ drop ! $
+        -- [the token of κ; the token of λ; what the others own; _20; …; _0; …]
+        assigns ! (addr ! (from ! (hop ! (look ! 37 refl) (stop !)))) (from ! (stop !)) (init ! 17 refl (tt, tt)) $
+        assigns ! (addr ! (from ! (hop ! (look ! 35 refl) (stop !)))) (from ! (stop !)) (init ! 15 refl (tt, tt)) $
+        assigns ! (addr ! (from ! (hop ! (look ! 33 refl) (stop !)))) (from ! (stop !)) (init ! 13 refl (tt, tt)) $
+        assigns ! (addr ! (from ! (hop ! (look ! 31 refl) (stop !)))) (from ! (stop !)) (init ! 11 refl (tt, tt)) $
+        assigns ! (addr ! (from ! (hop ! (look ! 29 refl) (stop !)))) (from ! (stop !)) (init ! 9 refl (tt, tt)) $
+        assigns ! (addr ! (from ! (hop ! (look ! 27 refl) (stop !)))) (from ! (stop !)) (init ! 7 refl (tt, tt)) $
+        assigns ! (addr ! (from ! (hop ! (look ! 25 refl) (stop !)))) (from ! (stop !)) (init ! 5 refl (tt, tt)) $
+        assigns ! (addr ! (from ! (hop ! (look ! 23 refl) (stop !)))) (from ! (stop !)) (init ! 3 refl (tt, tt)) $
         move ! (1 ∷ 2 ∷ []) $ use2 W (raw (Core 𝓤 H A mem run .pre (to-core v w))) (with-seen 𝓤 H A W λ′ p Rest rest vals (isNoTable ys) v is (slotIn ys n) w w-is) $
-        -- [what the core asks; the token of κ; _16; …; _0; …]
+        -- [what the core asks; the token of κ; _20; …; _0; …]
         calls-fn ! fm core.ended (core.clauses 𝓤 H A mem run) core-met (to-core v w) (λ r ws. Shows r ws ≡ shownOf (isNoTable ys) (slotIn ys n) n) (λ r ws. id⊢ 𝓤 _)
-        (and-then ! (load ! (from ! (stop !)) (look ! 16 refl)) (and-then ! (load ! (from ! (stop !)) (look ! 14 refl)) (and-then ! (load ! (from ! (stop !)) (look ! 30 refl)) (and-then ! (load ! (from ! (stop !)) (look ! 12 refl)) (and-then ! (load ! (from ! (stop !)) (look ! 10 refl)) (and-then ! (load ! (from ! (stop !)) (look ! 8 refl)) (and-then ! (load ! (from ! (stop !)) (look ! 6 refl)) (and-then ! (load ! (from ! (stop !)) (look ! 4 refl)) (and-then ! (load ! (from ! (stop !)) (look ! 2 refl)) (no-more !)))))))))) (λ u r ws e is′.
+        (and-then ! (load ! (from ! (stop !)) (look ! 20 refl)) (and-then ! (load ! (from ! (stop !)) (look ! 18 refl)) (and-then ! (load ! (from ! (stop !)) (look ! 38 refl)) (and-then ! (load ! (from ! (stop !)) (look ! 16 refl)) (and-then ! (load ! (from ! (stop !)) (look ! 14 refl)) (and-then ! (load ! (from ! (stop !)) (look ! 12 refl)) (and-then ! (load ! (from ! (stop !)) (look ! 10 refl)) (and-then ! (load ! (from ! (stop !)) (look ! 8 refl)) (and-then ! (load ! (from ! (stop !)) (look ! 6 refl)) (and-then ! (load ! (from ! (stop !)) (look ! 4 refl)) (and-then ! (load ! (from ! (stop !)) (look ! 2 refl)) (no-more !)))))))))))) (λ u r ws e is′.
         use1 W (‵ (flft λ′ p) ⊛ ‵ ftrue) (id⊢ 𝓤 _) $ move ! (2 ∷ 0 ∷ []) $ join ! $
-        -- [the tokens; the last values; _16; …; _0; …]
-        land ! (from ! (stop !)) (init ! 34 refl (uint-lawful 𝓤 H A W w8 .typed r _ is′ .0)) $
-        returns ! (look ! 34 refl) $ forget ! 2 refl $ forget ! 4 refl $ forget ! 6 refl $ forget ! 8 refl $ forget ! 10 refl $ forget ! 12 refl $ forget ! 14 refl $ forget ! 16 refl $ forget ! 18 refl $ forget ! 20 refl $ forget ! 22 refl $ forget ! 24 refl $ forget ! 26 refl $ forget ! 28 refl $ forget ! 30 refl $ forget ! 32 refl $ forget ! 34 refl $
-        move ! (34 ∷ 35 ∷ []) $ free1 ! $ move ! (32 ∷ 33 ∷ []) $ free1 ! $ move ! (30 ∷ 31 ∷ []) $ free1 ! $ move ! (28 ∷ 29 ∷ []) $ free1 ! $ move ! (26 ∷ 27 ∷ []) $ free1 ! $ move ! (24 ∷ 25 ∷ []) $ free1 ! $ move ! (22 ∷ 23 ∷ []) $ free1 ! $ move ! (20 ∷ 21 ∷ []) $ free1 ! $ move ! (18 ∷ 19 ∷ []) $ free1 ! $ move ! (16 ∷ 17 ∷ []) $ free1 ! $ move ! (14 ∷ 15 ∷ []) $ free1 ! $ move ! (12 ∷ 13 ∷ []) $ free1 ! $ move ! (10 ∷ 11 ∷ []) $ free1 ! $ move ! (8 ∷ 9 ∷ []) $ free1 ! $ move ! (6 ∷ 7 ∷ []) $ free1 ! $ move ! (4 ∷ 5 ∷ []) $ free1 ! $ move ! (2 ∷ 3 ∷ []) $ free1 ! $ free0 ! $
-        by ! (exits r u ws (e ∙ shown-in ys n) is′)))))))))))))))))))))
+        -- [the tokens; the last values; _20; …; _0; …]
+        land ! (from ! (stop !)) (init ! 42 refl (uint-lawful 𝓤 H A W w8 .typed r _ is′ .0)) $
+        returns ! (look ! 42 refl) $ forget ! 2 refl $ forget ! 4 refl $ forget ! 6 refl $ forget ! 8 refl $ forget ! 10 refl $ forget ! 12 refl $ forget ! 14 refl $ forget ! 16 refl $ forget ! 18 refl $ forget ! 20 refl $ forget ! 22 refl $ forget ! 24 refl $ forget ! 26 refl $ forget ! 28 refl $ forget ! 30 refl $ forget ! 32 refl $ forget ! 34 refl $ forget ! 36 refl $ forget ! 38 refl $ forget ! 40 refl $ forget ! 42 refl $
+        move ! (42 ∷ 43 ∷ []) $ free1 ! $ move ! (40 ∷ 41 ∷ []) $ free1 ! $ move ! (38 ∷ 39 ∷ []) $ free1 ! $ move ! (36 ∷ 37 ∷ []) $ free1 ! $ move ! (34 ∷ 35 ∷ []) $ free1 ! $ move ! (32 ∷ 33 ∷ []) $ free1 ! $ move ! (30 ∷ 31 ∷ []) $ free1 ! $ move ! (28 ∷ 29 ∷ []) $ free1 ! $ move ! (26 ∷ 27 ∷ []) $ free1 ! $ move ! (24 ∷ 25 ∷ []) $ free1 ! $ move ! (22 ∷ 23 ∷ []) $ free1 ! $ move ! (20 ∷ 21 ∷ []) $ free1 ! $ move ! (18 ∷ 19 ∷ []) $ free1 ! $ move ! (16 ∷ 17 ∷ []) $ free1 ! $ move ! (14 ∷ 15 ∷ []) $ free1 ! $ move ! (12 ∷ 13 ∷ []) $ free1 ! $ move ! (10 ∷ 11 ∷ []) $ free1 ! $ move ! (8 ∷ 9 ∷ []) $ free1 ! $ move ! (6 ∷ 7 ∷ []) $ free1 ! $ move ! (4 ∷ 5 ∷ []) $ free1 ! $ move ! (2 ∷ 3 ∷ []) $ free1 ! $ free0 ! $
+        by ! (exits r u ws (e ∙ shown-in ys n) is′)))))))))))))))))))))))))
 
 module _ {M : Type 1} (𝓤 : URA M) (H : Heap 𝓤) (A : Atoms 𝓤) (W : Given 𝓤 H A) (mem : Memory → SProp 𝓤) (run : Routine → Fun 𝓤) (𝓣 : Tables 𝓤 H) (ask-met : Triple 𝓤 (𝓣 .C #is-no-table) (IsNoTable 𝓤 H A mem run)) (take-met : Triple 𝓤 (𝓣 .C #slot-in) (SlotIn 𝓤 H A mem run)) (core-met : Triple 𝓤 (𝓣 .C #core) (Core 𝓤 H A mem run)) where
   abbrev Run : Fun 𝓤
@@ -127,15 +129,15 @@ module _ {M : Type 1} (𝓤 : URA M) (H : Heap 𝓤) (A : Atoms 𝓤) (W : Given
         goes-gave-ref 𝓤 H A W 2 1 tt (plainly (λ _. u64)),
         (
           goes-gave-ref 𝓤 H A W 2 1 tt (plainly (λ _. u16)),
-          (goes-gave-ref 𝓤 H A W 2 1 tt (plainly (λ _. u8)), (goes-gave-ref 𝓤 H A W 2 1 tt (plainly (λ _. u8)), (goes-gave-ref 𝓤 H A W 2 1 tt (plainly (λ _. u8)), (goes-gave-ref 𝓤 H A W 2 1 tt (plainly (λ _. u8)), tt)))),
+          (goes-gave-ref 𝓤 H A W 2 1 tt (plainly (λ _. u8)), (goes-gave-ref 𝓤 H A W 2 1 tt (plainly (λ _. u8)), (goes-gave-ref 𝓤 H A W 2 1 tt (plainly (λ _. u8)), (goes-gave-ref 𝓤 H A W 2 1 tt (plainly (λ _. u8)), (goes-gave-ref 𝓤 H A W 2 1 tt (plainly (λ _. u16)), (goes-gave-ref 𝓤 H A W 2 1 tt (plainly (λ _. u16)), tt)))))),
         ),
       ),
     ),
   ) (f.clauses 𝓤 H A mem run) Run (WpFn-mono 𝓤 H (W .laws) 𝓣 code.function)
-      (walked 𝓤 H A f.ended stayed (f.clauses 𝓤 H A mem run) Run (λ κs. (slice-vals, (uint-vals w64, (ptr-vals, (ptr-vals, (ptr-vals, (ptr-vals, (ptr-vals, (ptr-vals, tt)))))))))
-      (λ κs. (shr-slice-tells (named 0) (κs .0) R, (uint-tells w64, (mut-tells (named 1) (κs .1 .0) u64, (mut-tells (named 1) (κs .1 .0) u16, (mut-tells (named 1) (κs .1 .0) u8, (mut-tells (named 1) (κs .1 .0) u8, (mut-tells (named 1) (κs .1 .0) u8, (mut-tells (named 1) (κs .1 .0) u8, tt)))))))))
+      (walked 𝓤 H A f.ended stayed (f.clauses 𝓤 H A mem run) Run (λ κs. (slice-vals, (uint-vals w64, (ptr-vals, (ptr-vals, (ptr-vals, (ptr-vals, (ptr-vals, (ptr-vals, (ptr-vals, (ptr-vals, tt)))))))))))
+      (λ κs. (shr-slice-tells (named 0) (κs .0) R, (uint-tells w64, (mut-tells (named 1) (κs .1 .0) u64, (mut-tells (named 1) (κs .1 .0) u16, (mut-tells (named 1) (κs .1 .0) u8, (mut-tells (named 1) (κs .1 .0) u8, (mut-tells (named 1) (κs .1 .0) u8, (mut-tells (named 1) (κs .1 .0) u8, (mut-tells (named 1) (κs .1 .0) u16, (mut-tells (named 1) (κs .1 .0) u16, tt)))))))))))
       (λ κs qs bounds a g are. via 𝓤 _ (fst∗ 𝓤 _ (emp 𝓤))
-      (walk 𝓤 H A W mem run (κs .0) (κs .1 .0) (qs .0) (qs .1 .0) (a .0 .ptr .0) (a .0 .ptr .1) (a .0 .name) (a .0 .now) (a .1 .0) (a .1 .1 .0) (a .1 .1 .1 .0) (a .1 .1 .1 .1 .0) (a .1 .1 .1 .1 .1 .0) (a .1 .1 .1 .1 .1 .1 .0) (a .1 .1 .1 .1 .1 .1 .1 .0)
+      (walk 𝓤 H A W mem run (κs .0) (κs .1 .0) (qs .0) (qs .1 .0) (a .0 .ptr .0) (a .0 .ptr .1) (a .0 .name) (a .0 .now) (a .1 .0) (a .1 .1 .0) (a .1 .1 .1 .0) (a .1 .1 .1 .1 .0) (a .1 .1 .1 .1 .1 .0) (a .1 .1 .1 .1 .1 .1 .0) (a .1 .1 .1 .1 .1 .1 .1 .0) (a .1 .1 .1 .1 .1 .1 .1 .1 .0) (a .1 .1 .1 .1 .1 .1 .1 .1 .1 .0)
       (are .0 .0 .1) (are .1 .0 .1) (𝓣 .C) (𝓣 .Λ) (fmOf 𝓤 H (W .laws) 𝓣) ask-met take-met core-met)))
 
 pub card-read-spec : {M : Type 1} → stated.statement M
