@@ -63,14 +63,5 @@ pub put-last-spec : {M : Type 1} → statement M
 put-last-spec =
     tie.close
     (tie.spec
-    (λ c. search needs)
-    put-line-requires
-    (λ c. search needs)
-    put-line-requires-2
-    (λ c. search needs)
-    put-line-requires-3
-    (λ c. search needs)
-    put-line-requires-4
-    put-key-requires
-    (λ c. put-length (returns c))
-    returns)
+    (λ c. search needs) put-line-requires (λ c. search needs) put-line-requires-2 (λ c. search needs) put-line-requires-3 (λ c. search needs)
+    put-line-requires-4 put-key-requires (λ c. put-length (returns c)) returns)
