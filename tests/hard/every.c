@@ -188,7 +188,7 @@ static void every_byte_of_a_text(void)
     every_byte_of(RECORD_READ, longest, 0);
     every_byte_of(RECORD_READ, new_shortest, 0);
     every_byte_of(RECORD_READ, new_longest, 0);
-    every_byte_of(SLOTLIST, sheet, (size_t)(strstr(sheet, "number=1\n") - sheet));
+    every_byte_of(SLOTLIST, sheet, (size_t)(strstr(sheet, "form=2\n") - sheet));
 }
 
 static void every_listing_buffer(void)

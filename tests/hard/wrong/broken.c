@@ -292,7 +292,7 @@ uint8_t WRAP(plan)(uint64_t kind, uint64_t state, uint64_t flag, size_t length, 
 size_t WRAP(slotlist)(const uint8_t *sheet, size_t sheet_bytes, uint8_t *buffer, size_t bytes)
 {
     uint8_t enough[CARD_LISTING_BYTES];
-    const uint8_t *seen = IS(SHEET_BYTE_UNSEEN) ? mended(sheet, sheet_bytes, 113, '<') : sheet;
+    const uint8_t *seen = IS(SHEET_BYTE_UNSEEN) ? mended(sheet, sheet_bytes, 120, '<') : sheet;
     size_t length = REAL(slotlist)(seen, sheet_bytes, buffer, bytes);
 
     if (IS(LISTS_ONE_MORE) && length > 1 && buffer[0] == 't')
