@@ -5,7 +5,7 @@ use native.Mathlib.Omega.{arith}
 use lib.Bits.{xor-lt}
 use lib.Dec.{lit<}
 use Rattle.laws.proofs.Tests.{agree}
-use Rattle.field.specs.Field.{sumOver, timesSquares, inverse, turned, affine, sBox}
+use Rattle.gf256.specs.Field.{sumOver, timesSquares, inverse, turned, affine, sBox}
 use Rattle.inv_bytes.specs.Bytes.{invAffine, invSBox}
 use Rattle.both_ways.proofs.Sums.{over-small}
 

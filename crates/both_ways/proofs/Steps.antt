@@ -11,7 +11,7 @@ use Rattle.laws.specs.Lists.{tabulate, cell, grid}
 use Rattle.laws.proofs.Lists.{length-tabulate, getD-tabulate}
 use Rattle.laws.proofs.States.{Shape, columns-all, grid-at}
 use Rattle.laws.proofs.Xor.{xor-back}
-use Rattle.field.specs.Field.{sBox}
+use Rattle.gf256.specs.Field.{sBox}
 use Rattle.words.specs.Words.{byteOf}
 use Rattle.words.proofs.Bytes.{joined}
 use Rattle.rounds.specs.Steps.{byteSub, shiftOf, shiftRow, mixedByte, mixColumn, addRoundKey}

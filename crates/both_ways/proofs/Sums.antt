@@ -7,8 +7,8 @@ use lib.Bits.{bitXor, xor-lt, xor-comm}
 use lib.Dec.{eqb, lit<}
 use Rattle.laws.specs.Choice.{pick}
 use Rattle.laws.proofs.Xor.{xor-assoc, xor-middle}
-use Rattle.field.specs.Field.{timesZ, sumOver, times}
-use Rattle.field.proofs.Doubling.{linear}
+use Rattle.gf256.specs.Field.{timesZ, sumOver, times}
+use Rattle.gf256.proofs.Doubling.{linear}
 use Rattle.inv_bytes.proofs.Products.{z-double}
 
 -- z x, at a byte

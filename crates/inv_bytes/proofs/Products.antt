@@ -6,8 +6,8 @@ use lib.Bits.{bitXor, xor-zero-r}
 use lib.Dec.{eqb}
 use Rattle.laws.specs.Choice.{pick}
 use Rattle.laws.proofs.Tests.{agree}
-use Rattle.field.specs.Field.{timesZ, sumOver, times}
-use Rattle.field.proofs.Doubling.{double, is-double}
+use Rattle.gf256.specs.Field.{timesZ, sumOver, times}
+use Rattle.gf256.proofs.Doubling.{double, is-double}
 
 -- z x is doubling without a test
 pub z-double : (x : ℕ) → x < 256 → timesZ x ≡ double x

@@ -3,7 +3,7 @@ use mathlib.Core.List.{List}
 use Prim.Native.Nat.{ℕ}
 use lib.Bits.{bitXor}
 use Rattle.laws.specs.Lists.{tabulate}
-use Rattle.field.specs.Field.{times, inverse, turned}
+use Rattle.gf256.specs.Field.{times, inverse, turned}
 
 -- the inverse of the affine map: digit i of the result is digits i - 1, i - 3 and i - 6 of b, summed, and digit i of 0x05
 unfoldable pub invAffine : ℕ → ℕ

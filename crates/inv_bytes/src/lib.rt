@@ -3,9 +3,9 @@ ghost use mathlib.Core.Path.{_≡_};
 ghost use Prim.Native.Nat.{_%_, _<_};
 ghost use lib.Dec.{eqb};
 ghost use Rattle.laws.specs.Choice.{pick};
-ghost use Rattle.field.specs.Field.{times};
+ghost use Rattle.gf256.specs.Field.{times};
 ghost use Rattle.inv_bytes.specs.Bytes.{invSBox, invSBoxes, invMixedByte};
-use field::twice;
+use gf256::twice;
 
 // The Rijndael proposal, 4.2.1: the inverse of the affine map, and then the inverse.
 const INV_S_BOX: [u8; 256] = *b"\

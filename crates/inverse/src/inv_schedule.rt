@@ -2,7 +2,7 @@
 ghost use mathlib.Core.Path.{_≡_};
 ghost use lib.ListN.{length};
 ghost use Rattle.laws.specs.Lists.{tabulate};
-ghost use Rattle.field.specs.Field.{sBoxes};
+ghost use Rattle.gf256.specs.Field.{sBoxes};
 ghost use Rattle.inv_parts.specs.Schedule.{invKeyWord};
 
 // Fills the inverse's schedule of a key, for the blocks to come.

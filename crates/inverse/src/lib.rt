@@ -54,7 +54,7 @@ pub fn decrypt_block(b: [u8; 32], w: &[u32], table: &[u8; 256]) -> [u8; 32]
 pub fn deciphered(key: [u8; 24], b: [u8; 32]) -> [u8; 32]
     ensures { λ r. ⌜ r ≡ decipher key b ⌝ }
 {
-    let s_box = field::s_box_table();
+    let s_box = gf256::s_box_table();
     let table = inv_s_box_table();
     let mut w = [0u32; 120];
     inv_schedule::expand_inv_key(&mut w, key, &s_box);

@@ -13,7 +13,7 @@ use Rattle.laws.specs.Lists.{tabulate, window, sequence, cell, grid}
 use Rattle.laws.specs.Bits.{bitOf, bitAt}
 use Rattle.laws.proofs.Cases.{pick-cases}
 use Rattle.laws.proofs.Lists.{getD-tabulate}
-use Rattle.field.specs.Field.{times, inverse, affine, sBox}
+use Rattle.gf256.specs.Field.{times, inverse, affine, sBox}
 use Rattle.words.specs.Words.{join}
 use Rattle.rounds.specs.Steps.{byteSub, shiftRow, mixedByte, mixColumn, addRoundKey}
 use Rattle.schedule.specs.Schedule.{keyWord, rotByte, subByte, roundConstant, carried, packed}

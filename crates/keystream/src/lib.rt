@@ -5,7 +5,7 @@ ghost use mathlib.Core.List.{[]};
 ghost use Prim.Native.Nat.{_+_, _-_, _*_, _/_, _%_, _<_, _≤_, min, max};
 ghost use lib.ListN.{length, getD, set};
 ghost use Rattle.laws.specs.Lists.{tabulate};
-ghost use Rattle.field.specs.Field.{sBoxes};
+ghost use Rattle.gf256.specs.Field.{sBoxes};
 ghost use Rattle.products.specs.Products.{products};
 ghost use Rattle.schedule.specs.Schedule.{keyWord};
 ghost use Rattle.span.specs.Span.{longestBuffer, longestStream, xored, streamBit, blockAfter, blocksUsed};
@@ -147,7 +147,7 @@ pub fn xor_runs(buf: &mut [u8], p: Run, q: Run, algorithm: u64, ck: [u8; 24], iv
         × (r .schedules ≡ 1)
         × (r .blocks ≡ blocksOver p q) ⌝ }
 {
-    let table = field::s_box_table();
+    let table = gf256::s_box_table();
     let mode = tea::mode::mode_of(algorithm, ck, iv);
     let key = mode.key;
     let mut w = [0u32; 120];

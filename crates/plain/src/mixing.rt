@@ -1,7 +1,7 @@
 // The initial value mixed: clauses 5.2, 6.2, 7.2. No byte is kept: each asks for those that its rule names.
 ghost use mathlib.Core.Path.{_≡_};
 ghost use Prim.Native.Nat.{_-_, _<_, _≤_};
-ghost use Rattle.field.specs.Field.{times};
+ghost use Rattle.gf256.specs.Field.{times};
 ghost use Rattle.tea.specs.Mixing.{expandedByte};
 
 // b[i]: the first ten are the initial value's.

@@ -6,7 +6,7 @@ use lib.Bits.{bitXor}
 use lib.Dec.{eqb}
 use Rattle.laws.specs.Choice.{pick}
 use Rattle.laws.proofs.Xor.{xor-assoc}
-use Rattle.field.specs.Field.{timesZ, sumOver, times, timesSquares}
+use Rattle.gf256.specs.Field.{timesZ, sumOver, times, timesSquares}
 
 -- the sum, after n of its eight terms
 pub sum-more : (n s a b : ℕ) → n < 8

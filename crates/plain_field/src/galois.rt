@@ -3,7 +3,7 @@ ghost use mathlib.Core.Path.{_≡_};
 ghost use Prim.Native.Nat.{_%_};
 ghost use lib.Dec.{eqb};
 ghost use Rattle.laws.specs.Choice.{pick};
-ghost use Rattle.field.specs.Field.{timesZ, times, inverse};
+ghost use Rattle.gf256.specs.Field.{timesZ, times, inverse};
 
 // 2.1.3, `xtime`: b times x, a shift. Where the bit of x^7 goes out, it is x^8 = x^4 + x^3 + x + 1, which is 1b.
 pub fn xtime(b: u8) -> u8

@@ -1,6 +1,6 @@
 // The S-box, computed: the proposal, 4.2.1.
 ghost use mathlib.Core.Path.{_≡_};
-ghost use Rattle.field.specs.Field.{turned, affine, sBox};
+ghost use Rattle.gf256.specs.Field.{turned, affine, sBox};
 use crate::galois::inverse;
 
 // The eight bits turned left by one place.

@@ -18,7 +18,7 @@ use mir.Val.{Val}
 use Rattle.laws.specs.Lists.{tabulate}
 use Rattle.laws.proofs.Cases.{eq-or-ne}
 use Rattle.laws.proofs.Lists.{length-tabulate, getD-tabulate, tabulate-ext, tabulate-at}
-use Rattle.field.specs.Field.{sBox}
+use Rattle.gf256.specs.Field.{sBox}
 use Rattle.words.specs.Words.{join, byteOf}
 use Rattle.schedule.specs.Schedule.{rotByte, subByte, carried, keyWord}
 use Rattle.schedule.proofs.KeyWords.{word-next}

@@ -10,7 +10,7 @@ use lib.ListN.{length, getD}
 use Rattle.laws.specs.Lists.{tabulate}
 use Rattle.laws.proofs.Lists.{tabulate-ext}
 use Rattle.laws.proofs.Tests.{all, between, agree, pass-left, pass-right}
-use Rattle.field.specs.Field.{sBox}
+use Rattle.gf256.specs.Field.{sBox}
 use Rattle.products.specs.Products.{share}
 
 -- an entry of the table

@@ -3,7 +3,7 @@ use mathlib.Core.List.{List, [], _∷_}
 use Prim.Native.Nat.{ℕ, _/_, _%_}
 use lib.ListN.{getD}
 use Rattle.laws.specs.Lists.{tabulate}
-use Rattle.field.specs.Field.{times, sBox}
+use Rattle.gf256.specs.Field.{times, sBox}
 
 -- what a byte whose S-box value is s adds to the bytes of its mixed column, from the one above its own row's upwards and around
 unfoldable pub share : ℕ → ℕ → ℕ

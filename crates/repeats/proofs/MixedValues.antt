@@ -15,7 +15,7 @@ use Rattle.laws.proofs.Cases.{lt-or-le}
 use Rattle.laws.proofs.Lists.{length-tabulate, getD-tabulate}
 use Rattle.laws.proofs.Tests.{holds}
 use Rattle.laws.proofs.Xor.{xor-back}
-use Rattle.field.specs.Field.{times}
+use Rattle.gf256.specs.Field.{times}
 use Rattle.tea.specs.Mixing.{expandedByte, mixedValue}
 use Rattle.tea.proofs.MixingRule.{byte-first, byte-later}
 use Rattle.repeats.specs.Repeats.{Bytes}

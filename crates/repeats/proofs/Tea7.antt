@@ -11,7 +11,7 @@ use lib.ListN.{length, getD, List·getD-eq-default}
 use Rattle.laws.specs.Lists.{tabulate, window, sequence}
 use Rattle.laws.proofs.Cases.{lt-or-le}
 use Rattle.laws.proofs.Tests.{all, holds}
-use Rattle.field.specs.Field.{times}
+use Rattle.gf256.specs.Field.{times}
 use Rattle.algorithms.specs.Combining.{fTea7}
 use Rattle.algorithms.specs.Algorithm.{combining}
 use Rattle.tea.specs.Mixing.{expandedByte, mixedValue}

@@ -1,7 +1,7 @@
 // Rijndael with blocks of 256 bits and keys of 192 bits: 14 rounds on a state of four rows by eight columns.
 ghost use mathlib.Core.Path.{_≡_};
 ghost use lib.ListN.{length};
-ghost use Rattle.field.specs.Field.{sBoxes};
+ghost use Rattle.gf256.specs.Field.{sBoxes};
 ghost use Rattle.products.specs.Products.{products};
 ghost use Rattle.rijndael.specs.Cipher.{toState, toBlock, encrypted};
 use rounds::last_round;

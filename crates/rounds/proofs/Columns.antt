@@ -12,7 +12,7 @@ use lib.Seq.{getD-set-same, getD-set-other}
 use Rattle.laws.specs.Lists.{cell, grid, tabulate}
 use Rattle.laws.proofs.States.{Shape, put, Placed, Apart, place-more, columns-all, grid-at}
 use Rattle.laws.proofs.Tests.{agree}
-use Rattle.field.specs.Field.{sBox}
+use Rattle.gf256.specs.Field.{sBox}
 use Rattle.words.specs.Words.{byteOf, bytesOf}
 use Rattle.rounds.specs.Steps.{byteSub, shiftOf, shiftRow, mixedByte, mixColumn, addRoundKey, roundOf}
 use Rattle.rounds.specs.Columns.{ofWords, mixedColumn}

@@ -4,8 +4,8 @@ use mathlib.Core.Path.{_≡_, sym, ap, _∙_}
 use Prim.Native.Nat.{ℕ, _+_, _<_}
 use lib.Bits.{bitXor, xor-comm}
 use Rattle.laws.proofs.Xor.{xor-assoc}
-use Rattle.field.specs.Field.{times, sBox}
-use Rattle.field.proofs.Bounds.{times-lt, s-box-lt}
+use Rattle.gf256.specs.Field.{times, sBox}
+use Rattle.gf256.proofs.Bounds.{times-lt, s-box-lt}
 use Rattle.products.specs.Products.{share}
 use Rattle.words.specs.Words.{join, bytesOf}
 use Rattle.words.proofs.Bytes.{joined, summed}

@@ -5,7 +5,7 @@ use Prim.Native.Nat.{ℕ, _+_, _*_, _%_}
 use lib.Bits.{bitXor}
 use lib.ListN.{getD}
 use Rattle.laws.specs.Lists.{cell, grid}
-use Rattle.field.specs.Field.{times, sBox}
+use Rattle.gf256.specs.Field.{times, sBox}
 use Rattle.words.specs.Words.{byteOf}
 
 -- 4.2.1

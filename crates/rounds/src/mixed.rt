@@ -1,7 +1,7 @@
 // A mixed column by the lent table of products.
 ghost use mathlib.Core.Path.{_≡_};
 ghost use Prim.Native.Nat.{_+_, _<_};
-ghost use Rattle.field.specs.Field.{sBox};
+ghost use Rattle.gf256.specs.Field.{sBox};
 ghost use Rattle.products.specs.Products.{share, products};
 ghost use Rattle.words.specs.Words.{join, bytesOf};
 ghost use Rattle.rounds.specs.Columns.{mixedColumn};

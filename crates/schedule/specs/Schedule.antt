@@ -7,7 +7,7 @@ use lib.Dec.{eqb}
 use lib.ListN.{getD}
 use Rattle.laws.specs.Choice.{pick}
 use Rattle.laws.specs.Lists.{tabulate, sequence}
-use Rattle.field.specs.Field.{timesZ, sBox}
+use Rattle.gf256.specs.Field.{timesZ, sBox}
 use Rattle.words.specs.Words.{join}
 
 -- a word turned by one byte

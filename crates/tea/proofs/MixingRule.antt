@@ -11,7 +11,7 @@ use lib.Seq.{getD-set-same}
 use Rattle.laws.specs.Lists.{Filled}
 use Rattle.laws.proofs.Lists.{fill-more}
 use Rattle.laws.proofs.Windows.{window-at, sequence-first, sequence-next}
-use Rattle.field.specs.Field.{times}
+use Rattle.gf256.specs.Field.{times}
 use Rattle.tea.specs.Mixing.{mixed, expandedByte}
 
 module _ (iv : List ℕ) (ten : length iv ≡ 10) where

@@ -4,7 +4,7 @@ use Prim.Native.Nat.{ℕ, _+_}
 use lib.Bits.{bitXor}
 use lib.ListN.{getD}
 use Rattle.laws.specs.Lists.{tabulate, sequence}
-use Rattle.field.specs.Field.{times}
+use Rattle.gf256.specs.Field.{times}
 
 -- b[i] from b[i-10], b[i-9] and b[i-1]
 abbrev pub mixed : ℕ → ℕ → ℕ → ℕ

@@ -22,7 +22,7 @@ fn mixed_bytes(iv: [u8; 10]) -> [u8; 44]
     let mut last = iv[9];
     let mut two = iv[0] ^ iv[1];
     for i in 10..44 {
-        let x = two ^ field::times_d7(last);
+        let x = two ^ gf256::times_d7(last);
         b[i] = x;
         two = b[i - 9] ^ b[i - 8];
         last = x;

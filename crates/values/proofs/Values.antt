@@ -8,7 +8,7 @@ use lib.Dec.{T, eqb, eqb→eq}
 use lib.ListN.{length, getD}
 use Rattle.laws.specs.Lists.{tabulate, window, sequence}
 use Rattle.laws.proofs.Tests.{pass-left, pass-right}
-use Rattle.field.specs.Field.{times, inverse, affine, sBox}
+use Rattle.gf256.specs.Field.{times, inverse, affine, sBox}
 use Rattle.algorithms.specs.Combining.{fTea6}
 use Rattle.algorithms.specs.Algorithm.{combining, digitOf, nameOf}
 use Rattle.tea.specs.Mixing.{expandedByte, mixedValue}

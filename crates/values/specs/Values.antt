@@ -2,7 +2,7 @@
 use mathlib.Core.List.{List, [], _∷_, _++_}
 use Prim.Native.Nat.{ℕ}
 use lib.ListN.{getD, replicate}
-use Rattle.field.specs.Field.{times, sBox}
+use Rattle.gf256.specs.Field.{times, sBox}
 use Rattle.algorithms.specs.Algorithm.{combining}
 use Rattle.tea.specs.Mixing.{expandedByte, mixedValue}
 use Rattle.span.specs.Span.{blocksUsed}

@@ -4,7 +4,7 @@ use Prim.Native.Nat.{ℕ, _+_, _-_, _≤_}
 use native.Mathlib.Numerals.{add-one}
 use native.Mathlib.Omega.{arith}
 use borrow.Author.Needs.{needs}
-use Rattle.field.specs.Field.{timesZ}
+use Rattle.gf256.specs.Field.{timesZ}
 use Rattle.schedule.specs.Schedule.{roundConstant}
 use Rattle.plain_schedule.proofs.round_constant.Statement.{statement}
 use Rattle.plain_schedule.proofs.round_constant.Tie as tie

@@ -1,6 +1,6 @@
 -- `products::product_table`: the table's rule, by one test of its 2,048 entries. Assumes nothing.
 use mathlib.Core.Path.{refl}
-use Rattle.field.specs.Field.{times, inverse, affine, sBox}
+use Rattle.gf256.specs.Field.{times, inverse, affine, sBox}
 use Rattle.products.specs.Products.{share, products}
 use Rattle.products.proofs.Table.{by-eight}
 use Rattle.products.proofs.product_table.Statement.{statement}

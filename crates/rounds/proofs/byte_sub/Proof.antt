@@ -1,7 +1,7 @@
 -- `rounds::byte_sub`: cell by cell. Assumes nothing.
 use Prim.Native.Nat.{_-_}
 use borrow.Author.Needs.{needs}
-use Rattle.field.specs.Field.{sBox}
+use Rattle.gf256.specs.Field.{sBox}
 use Rattle.rounds.specs.Steps.{byteSub}
 use Rattle.laws.proofs.States.{state-shape}
 use Rattle.laws.proofs.InRows.{InRow, InRows, in-rows-none, in-row-none, in-row-more, in-rows-more, in-rows-all}

@@ -2,7 +2,7 @@
 use mathlib.Core.Path.{sym, ap, _∙_}
 use Prim.Native.Nat.{_<_}
 use borrow.Author.Needs.{needs}
-use Rattle.field.specs.Field.{sBox}
+use Rattle.gf256.specs.Field.{sBox}
 use Rattle.schedule.specs.Schedule.{subByte}
 use Rattle.words.specs.Words.{join}
 use Rattle.schedule.proofs.KeyWords.{turn-0, turn-1, turn-2, turn-3}

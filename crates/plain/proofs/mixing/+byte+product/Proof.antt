@@ -7,7 +7,7 @@ use lib.Bits.{bitXor}
 use borrow.Author.Needs.{needs}
 use borrow.Fn.Kinds.{In}
 use borrow.Fn.PlainCycle.{Measures, is, falls, and}
-use Rattle.field.specs.Field.{times}
+use Rattle.gf256.specs.Field.{times}
 use Rattle.tea.specs.Mixing.{mixed, expandedByte}
 use Rattle.tea.proofs.MixingRule.{byte-first, byte-later}
 use Rattle.plain.proofs.mixing.byte.Reads as byte

@@ -3,7 +3,7 @@ use mathlib.Core.Path.{_≡_, refl, sym, ap, _∙_}
 use Prim.Native.Nat.{ℕ, _+_, _-_, _<_, _≤_}
 use native.Mathlib.Omega.{arith}
 use borrow.Author.Needs.{needs}
-use Rattle.field.specs.Field.{times, timesSquares, inverse}
+use Rattle.gf256.specs.Field.{times, timesSquares, inverse}
 use Rattle.plain_field.proofs.Products.{square-more}
 use Rattle.plain_field.proofs.galois.inverse.Statement.{statement}
 use Rattle.plain_field.proofs.galois.inverse.Tie as tie

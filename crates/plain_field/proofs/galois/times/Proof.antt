@@ -4,7 +4,7 @@ use Prim.Native.Nat.{ℕ, _+_, _-_, _/_, _<_, _≤_}
 use native.Mathlib.Omega.{arith}
 use borrow.Author.Needs.{needs}
 use lib.Bits.{bitXor, xor-zero-l, xor-zero-r}
-use Rattle.field.specs.Field.{sumOver, times}
+use Rattle.gf256.specs.Field.{sumOver, times}
 use Rattle.plain_field.proofs.Products.{sum-more}
 use Rattle.plain_field.proofs.galois.times.Statement.{statement}
 use Rattle.plain_field.proofs.galois.times.Tie as tie

@@ -4,7 +4,7 @@ use native.Mathlib.Omega.{arith}
 use borrow.Author.Needs.{needs}
 use borrow.Author.Tests.{lt-ltb}
 use lib.Bits.{bitXor}
-use Rattle.field.specs.Field.{timesZ}
+use Rattle.gf256.specs.Field.{timesZ}
 use Rattle.laws.proofs.Tests.{agree}
 use Rattle.plain_field.proofs.galois.xtime.Statement.{statement}
 use Rattle.plain_field.proofs.galois.xtime.Tie as tie

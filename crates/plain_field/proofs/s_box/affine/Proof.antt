@@ -1,6 +1,6 @@
 -- `plain_field::s_box::affine`: by the callee's contract. Assumes nothing.
 use borrow.Author.Needs.{needs}
-use Rattle.field.specs.Field.{affine}
+use Rattle.gf256.specs.Field.{affine}
 use Rattle.plain_field.proofs.s_box.affine.Statement.{statement}
 use Rattle.plain_field.proofs.s_box.affine.Tie as tie
 

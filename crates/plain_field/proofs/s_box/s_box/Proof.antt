@@ -1,6 +1,6 @@
 -- `plain_field::s_box::s_box`: by the callees' contracts. Assumes nothing.
 use borrow.Author.Needs.{needs}
-use Rattle.field.specs.Field.{sBox}
+use Rattle.gf256.specs.Field.{sBox}
 use Rattle.plain_field.proofs.s_box.s_box.Statement.{statement}
 use Rattle.plain_field.proofs.s_box.s_box.Tie as tie
 

@@ -5,7 +5,7 @@ use native.Mathlib.Omega.{arith}
 use borrow.Author.Needs.{needs}
 use lib.ListN.{getD}
 use Rattle.laws.proofs.Lists.{tabulate-at}
-use Rattle.field.specs.Field.{sBox}
+use Rattle.gf256.specs.Field.{sBox}
 use Rattle.words.specs.Words.{join}
 use Rattle.products.specs.Products.{share, products}
 use Rattle.products.proofs.Table.{share-at}
