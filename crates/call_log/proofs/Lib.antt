@@ -1,0 +1,5 @@
+pub mod Highs
+pub mod Sound
+pub mod Feeds
+pub mod Sizes
+pub mod Bytes

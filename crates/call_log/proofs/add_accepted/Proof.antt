@@ -1,0 +1,13 @@
+-- `call_log::add_accepted`: one row after the other. Assumes nothing.
+use Rattle.call_log.specs.Figures.{addedAccepted}
+use borrow.Author.Needs.{needs}
+use Rattle.call_log.proofs.add_accepted.Statement.{statement}
+use Rattle.call_log.proofs.add_accepted.Tie as tie
+
+returns : tie.Need-returns
+unfolding addedAccepted
+returns c = cc
+
+pub add-accepted-spec : {M : Type 1} → statement M
+add-accepted-spec =
+    tie.close (tie.spec (λ c κs. search needs) (λ c κs. search needs) (λ c κs. search needs) (λ c. search needs) returns)

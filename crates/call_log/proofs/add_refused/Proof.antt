@@ -1,0 +1,12 @@
+-- `call_log::add_refused`: one figure after the other. Assumes nothing.
+use Rattle.call_log.specs.Figures.{addedRefused}
+use borrow.Author.Needs.{needs}
+use Rattle.call_log.proofs.add_refused.Statement.{statement}
+use Rattle.call_log.proofs.add_refused.Tie as tie
+
+returns : tie.Need-returns
+unfolding addedRefused
+returns c = cc
+
+pub add-refused-spec : {M : Type 1} → statement M
+add-refused-spec = tie.close (tie.spec (λ c. search needs) (λ c κs. search needs) (λ c κs. search needs) (λ c. search needs) returns)

@@ -1,0 +1,1 @@
+// Theorems on the month sheet. No code.
