@@ -1,0 +1,2 @@
+pub mod Euclid
+pub mod Lowest

@@ -1,6 +1,7 @@
 -- A share as a fraction in lowest terms. Assumes nothing: these are definitions.
 use mathlib.Core.Path.{_≡_}
 use Prim.Native.Nat.{ℕ, zero, suc, _*_, _<_, _/_, _%_}
+use Prim.Native.Nat.{_∣_}
 use lib.Dec.{eqb}
 use Rattle.laws.specs.Choice.{pick}
 use Rattle.shares.specs.declared.Share.{Share}
@@ -21,13 +22,9 @@ unfoldable pub shareOf : ℕ → ℕ → Share
 shareOf part whole =
     pick (eqb whole 0) (fractionOf 0 1) (fractionOf (part / gcd part whole) (whole / gcd part whole))
 
--- a number divides another
-pub record Divides (d n : ℕ) : Type 0 where
-  pub times : ℕ
-  pub is : n ≡ times * d
 
 -- a fraction is a share in lowest terms: it times the whole is the part, and above and below have no common divisor but 1
 pub record LowestShare (part whole top bottom : ℕ) : Type 0 where
   pub exact : top * whole ≡ part * bottom
   pub some : 0 < bottom
-  pub lowest : (d : ℕ) → Divides d top → Divides d bottom → d ≡ 1
+  pub lowest : (d : ℕ) → d ∣ top → d ∣ bottom → d ≡ 1
