@@ -1,6 +1,6 @@
 -- There are as many figures after a byte as before it. Assumes nothing.
 use mathlib.Core.Bool.{Bool, true, false}
-use mathlib.Core.List.{List}
+use mathlib.Core.List.{List, [], _∷_}
 use mathlib.Core.Path.{_≡_, refl, _∙_}
 use Prim.Native.Nat.{ℕ, _+_, _%_, _^_}
 use lib.Dec.{eqb}
@@ -10,7 +10,7 @@ use Rattle.call_log.specs.declared.Call.{Call}
 use Rattle.call_log.specs.declared.Month.{Month}
 use Rattle.call_log.specs.Log.{isAccepted}
 use Rattle.call_log.specs.Figures.{rowOf, totalRow, callsAt, bitsAt, blocksAt, linesAt, countAt, plus, intoRow, addedAccepted, addedRefused, added}
-use Rattle.call_log.specs.Fed.{Fed, fedTo, lineStart, stopped, callOf, taken, ended, endsLine, inLine, fedByte}
+use Rattle.call_log.specs.Fed.{Fed, fedTo, lineStart, stopped, callOf, taken, ended, endsLine, inLine, fedByte, fed}
 
 pub plus-size : (f : List ℕ) (i n : ℕ) → length (plus f i n) ≡ length f
 unfolding plus
@@ -52,3 +52,8 @@ byte-size f b = go (f .month .good) (endsLine (f .month) b)
     go true true = ended-size (f .month) (f .figures)
     go true false = refl
     go false u = refl
+
+pub fed-size : (f : Fed) (bytes : List ℕ) → length (fed f bytes .figures) ≡ length (f .figures)
+unfolding fed
+fed-size f [] = refl
+fed-size f (b ∷ bytes) = fed-size (fedByte f b) bytes ∙ byte-size f b

@@ -6,7 +6,6 @@ use lib.ListN.{length, getD}
 use Rattle.laws.specs.Choice.{pick}
 use Rattle.writing.specs.Text.{digits, item, lineText}
 use Rattle.writing.specs.Writing.{atFront}
-use Rattle.shares.specs.declared.Share.{Share}
 use Rattle.shares.specs.Share.{shareOf}
 use Rattle.call_log.specs.Figures.{totalRow, callsAt, bitsAt, blocksAt, linesAt, countAt}
 use Rattle.call_log.specs.Fed.{Fed, wrongLine}
@@ -15,8 +14,9 @@ use Rattle.call_log.specs.Fed.{Fed, wrongLine}
 abbrev pub logLineBad : ℕ
 logLineBad = 27
 
-abbrev pub shareText : Share → List ℕ
-shareText s = item " share=" (digits (s .top)) ++ lineText "/" (digits (s .bottom))
+-- a fraction, at the end of a line
+unfoldable pub shareText : ℕ → ℕ → List ℕ
+shareText top bottom = item " share=" (digits top) ++ lineText "/" (digits bottom)
 
 -- a slot and direction: its calls, bits and blocks, and their share of all bits
 unfoldable pub rowText : ℕ → ℕ → ℕ → ℕ → ℕ → ℕ → List ℕ
@@ -26,7 +26,7 @@ rowText slot direction calls bits blocks all =
     ++ (item " calls=" (digits calls)
     ++ (item " bits=" (digits bits)
     ++ (item " blocks=" (digits blocks)
-    ++ shareText (shareOf bits all)))))
+    ++ shareText (shareOf bits all .top) (shareOf bits all .bottom)))))
 
 unfoldable pub countText : ℕ → ℕ → List ℕ
 countText code count = item "code=" (digits code) ++ lineText " count=" (digits count)
@@ -79,7 +79,10 @@ refusedText line = item "refused=" (digits logLineBad) ++ lineText " line=" (dig
 unfoldable pub printedText : Fed → List ℕ
 printedText f = pick (eqb (wrongLine (f .month)) 0) (sheetText (sumsIn (f .figures))) (refusedText (wrongLine (f .month)))
 
--- no line of a row, of a count or of the total is longer, nor what is printed
+-- no share, no line of a row, of a count or of the total is longer, nor what is printed
+abbrev pub longestShare : ℕ
+longestShare = 49
+
 abbrev pub longestRow : ℕ
 longestRow = 180
 

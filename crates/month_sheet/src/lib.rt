@@ -7,8 +7,7 @@ use writing::put_line;
 ghost use mathlib.Core.Path.{_≡_};
 ghost use Prim.Native.Nat.{_+_, _*_, _/_, _%_, _<_, _≤_};
 ghost use lib.ListN.{length, getD};
-ghost use Rattle.writing.specs.Writing.{Put};
-ghost use Rattle.shares.specs.Share.{shareOf};
+ghost use Rattle.writing.specs.Writing.{Room, Put};
 ghost use Rattle.call_log.specs.Fed.{fedTo};
 ghost use Rattle.month_sheet.specs.Sheet.{
   shareText,
@@ -51,13 +50,12 @@ fn figure(figures: &[u64], i: usize) -> u64
 }
 
 // The end of a row's line.
-fn put_share(buffer: &mut [u8], at: usize, bits: u64, all: u64) -> usize
-    requires { ⌜ at + 49 ≤ length (now buffer) ⌝ }
-    ensures { λ r. ⌜ (r ≤ at + 49) × Put (now (buffer .entry)) at (shareText (shareOf bits all)) (now (buffer .exit)) r ⌝ }
+fn put_share(buffer: &mut [u8], at: usize, top: u64, bottom: u64) -> usize
+    requires { ⌜ Room (now buffer) at (shareText top bottom) ⌝ }
+    ensures { λ r. ⌜ Put (now (buffer .entry)) at (shareText top bottom) (now (buffer .exit)) r ⌝ }
 {
-    let share = share_of(bits, all);
-    let end = put_item(buffer, at, b" share=", share.top);
-    put_line(buffer, end, b"/", share.bottom)
+    let end = put_item(buffer, at, b" share=", top);
+    put_line(buffer, end, b"/", bottom)
 }
 
 // A slot and direction.
@@ -78,7 +76,8 @@ fn put_row(
     let ciphered = put_item(buffer, accepted, b" calls=", calls);
     let used = put_item(buffer, ciphered, b" bits=", bits);
     let share = put_item(buffer, used, b" blocks=", blocks);
-    put_share(buffer, share, bits, all)
+    let part = share_of(bits, all);
+    put_share(buffer, share, part.top, part.bottom)
 }
 
 fn put_rows<'a>(buffer: &'a mut [u8], at: usize, figures: &'a [u64]) -> usize
