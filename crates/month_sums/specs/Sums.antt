@@ -1,0 +1,33 @@
+-- The figures of a month as sums over the log's lines (document 02, [13]). Assumes nothing: these are definitions.
+use mathlib.Core.Bool.{Bool, _&&_, _||_}
+use mathlib.Core.List.{List, [], _∷_}
+use Prim.Native.Nat.{ℕ, _+_, _/_, _%_}
+use lib.Dec.{eqb}
+use lib.ListN.{length}
+use Rattle.laws.specs.Choice.{pick}
+use Rattle.call_log.specs.declared.Call.{Call}
+use Rattle.call_log.specs.Log.{isAccepted}
+use Rattle.call_log.specs.Figures.{totalRow}
+use Rattle.month_sheet.specs.Sheet.{Sums}
+
+unfoldable pub sumOver : (Call → ℕ) → List Call → ℕ
+sumOver f [] = 0
+sumOver f (c ∷ cs) = f c + sumOver f cs
+
+-- an accepted call of a slot and direction
+abbrev pub isOf : ℕ → ℕ → Call → Bool
+isOf slot direction c = isAccepted c && (eqb (c .slot) slot && eqb (c .direction) direction)
+
+-- the lines of which a row speaks: those of its slot and direction, or all accepted calls
+unfoldable pub inRow : ℕ → Call → Bool
+inRow row c = pick (eqb row totalRow) (isAccepted c) (isOf (row / 2 + 1) (row % 2 + 1) c)
+
+abbrev pub sumsOver : List Call → Sums
+sumsOver cs =
+    record {
+      calls = λ row. sumOver (λ c. pick (inRow row c) 1 0) cs;
+      bits = λ row. sumOver (λ c. pick (inRow row c) (c .bits) 0) cs;
+      blocks = λ row. sumOver (λ c. pick (inRow row c) (c .blocks) 0) cs;
+      count = λ code. sumOver (λ c. pick (eqb (c .code) code) 1 0) cs;
+      lines = length cs;
+    }
