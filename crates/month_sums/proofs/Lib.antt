@@ -1,1 +1,4 @@
 pub mod Forward
+pub mod Prefix
+pub mod Logs
+pub mod First
