@@ -1,7 +1,7 @@
 -- What is read of any log: some good lines, and then what is no good line or not yet one. Assumes nothing.
 use mathlib.Core.Bool.{Bool, true, false, true≢false, _&&_}
 use mathlib.Core.Logic.{_⊎_, inl, inr, ⊎-elim}
-use mathlib.Core.List.{List, [], _∷_, _++_, append-assoc}
+use mathlib.Core.List.{List, [], _∷_, _++_, append-assoc, append-nil}
 use mathlib.Core.Path.{_≡_, refl, sym, ap, subst, _∙_}
 use Prim.Native.Nat.{ℕ, zero, suc, _+_, _≤_, _<_}
 use native.Mathlib.Omega.{arith}
@@ -101,10 +101,6 @@ module _ {start : List ℕ} (f : Fed) (log : List ℕ) (r : Read start f log) (g
         state = inl (record { good = refl; fine = fresh; text = sym (start-text (f .month .line + 1)) });
       })
     where
-      append-nil : (l : List ℕ) → l ++ [] ≡ l
-      append-nil [] = refl
-      append-nil (x ∷ l) = ap (λ (t : List ℕ). x ∷ t) (append-nil l)
-
       fresh : Fine (lineStart (f .month .line + 1))
       fresh = record { part = omega arith; number = omega arith; first = omega arith; second = omega arith; third = omega arith; fourth = omega arith }
 
@@ -127,3 +123,57 @@ module _ {start : List ℕ} (f : Fed) (log : List ℕ) (r : Read start f log) (g
   on-now : endsLine (f .month) x ≡ false → Read start (fedByte f x) (log ++ (x ∷ []))
   unfolding After
   on-now e = ⊎-elim (λ j. going-now (inLine (f .month) x) (byte-in f x (g .good) e) j) (λ s. wrong-now (byte-in f x (g .good) e ∙ ap (λ (m : Month). fedTo m (f .figures)) s)) (in-line (f .month) x (g .fine))
+
+-- one byte more
+next : {start : List ℕ} (f : Fed) (log : List ℕ) (x : ℕ) → Read start f log → Read start (fedByte f x) (log ++ (x ∷ []))
+next {start} f log x r = ⊎-elim going wrong (r .state)
+  where
+    going : Going (f .month) (r .rest) → Read start (fedByte f x) (log ++ (x ∷ []))
+    going g = go (endsLine (f .month) x) refl
+      where
+        go : (t : Bool) → endsLine (f .month) x ≡ t → Read start (fedByte f x) (log ++ (x ∷ []))
+        go true e = ends-now f log r g x e
+        go false e = on-now f log r g x e
+
+    wrong : Wrong (f .month) (r .rest) → Read start (fedByte f x) (log ++ (x ∷ []))
+    wrong w =
+        subst (λ (h : Fed). Read start h (log ++ (x ∷ []))) (sym (byte-wrong f x (w .bad)))
+        (record {
+          calls = r .calls;
+          rest = r .rest ++ (x ∷ []);
+          good = r .good;
+          few = r .few;
+          line = r .line;
+          figures = r .figures;
+          is = ap (λ (l : List ℕ). l ++ (x ∷ [])) (r .is) ∙ append-assoc (logText (r .calls)) (r .rest) (x ∷ []);
+          state = inr (record { bad = w .bad; more = some (r .rest) x });
+        })
+
+-- all bytes
+all-read : {start : List ℕ} (f : Fed) (log bytes : List ℕ) → Read start f log → Read start (fed f bytes) (log ++ bytes)
+unfolding fed
+all-read {start} f log [] r = subst (Read start f) (sym (append-nil log)) r
+all-read {start} f log (x ∷ bytes) r =
+    subst (Read start (fed (fedByte f x) bytes)) (append-assoc log (x ∷ []) bytes) (all-read (fedByte f x) (log ++ (x ∷ [])) bytes (next f log x r))
+
+-- a whole log, from its first byte
+pub read : (start log : List ℕ) → Read start (fed (fedTo (lineStart 1) start) log) log
+unfolding logText figuresAfter
+read start log =
+    all-read (fedTo (lineStart 1) start) [] log
+    (record {
+      calls = [];
+      rest = [];
+      good = none;
+      few = omega arith;
+      line = refl;
+      figures = refl;
+      is = refl;
+      state =
+          inl
+          (record {
+            good = refl;
+            fine = record { part = omega arith; number = omega arith; first = omega arith; second = omega arith; third = omega arith; fourth = omega arith };
+            text = sym (start-text 1);
+          });
+    })

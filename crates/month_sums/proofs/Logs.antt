@@ -1,6 +1,6 @@
 -- Logs of good lines, one after the other: their text, their figures, and what is read of them. Assumes nothing.
 use mathlib.Core.Bool.{Bool, true, false}
-use mathlib.Core.List.{List, [], _∷_, _++_, append-assoc}
+use mathlib.Core.List.{List, [], _∷_, _++_, append-assoc, append-nil}
 use mathlib.Core.Path.{_≡_, refl, sym, ap, subst, _∙_}
 use Prim.Native.Nat.{ℕ, zero, suc, _+_, _≤_, _<_}
 use native.Mathlib.Omega.{arith}
@@ -28,10 +28,6 @@ module _ (c : Call) where
   pub text-more : (cs : List Call) → logText (cs ++ (c ∷ [])) ≡ logText cs ++ callText c
   unfolding logText
   text-more [] = append-nil (callText c)
-    where
-      append-nil : (l : List ℕ) → l ++ [] ≡ l
-      append-nil [] = refl
-      append-nil (x ∷ l) = ap (λ (t : List ℕ). x ∷ t) (append-nil l)
   text-more (d ∷ cs) = ap (λ (t : List ℕ). callText d ++ t) (text-more cs) ∙ sym (append-assoc (callText d) (logText cs) (callText c))
 
   pub figures-more : (f : List ℕ) (cs : List Call) → figuresAfter f (cs ++ (c ∷ [])) ≡ added (figuresAfter f cs) c

@@ -1,7 +1,7 @@
 -- The figures of a month as sums over the log's lines (document 02, [13]). Assumes nothing: these are definitions.
 use mathlib.Core.Bool.{Bool, _&&_, _||_}
 use mathlib.Core.List.{List, [], _∷_}
-use Prim.Native.Nat.{ℕ, _+_, _/_, _%_}
+use Prim.Native.Nat.{ℕ, zero, suc, _+_, _/_, _%_}
 use lib.Dec.{eqb}
 use lib.ListN.{length}
 use Rattle.laws.specs.Choice.{pick}
@@ -31,3 +31,8 @@ sumsOver cs =
       count = λ code. sumOver (λ c. pick (eqb (c .code) code) 1 0) cs;
       lines = length cs;
     }
+
+-- f 0, f 1, .. added up: n of them
+unfoldable pub sumTo : (ℕ → ℕ) → ℕ → ℕ
+sumTo f zero = 0
+sumTo f (suc n) = sumTo f n + f n

@@ -22,7 +22,6 @@ unfoldable pub shareOf : ℕ → ℕ → Share
 shareOf part whole =
     pick (eqb whole 0) (fractionOf 0 1) (fractionOf (part / gcd part whole) (whole / gcd part whole))
 
-
 -- a fraction is a share in lowest terms: it times the whole is the part, and above and below have no common divisor but 1
 pub record LowestShare (part whole top bottom : ℕ) : Type 0 where
   pub exact : top * whole ≡ part * bottom

@@ -33,13 +33,12 @@ loop-again c =
     let call = c .before .before in
     let loop = c .before .before .before .before .before .before in
     let figures = c .before .before .before .before .before .before .before .before .before .args .figures .now in
-    let put = call .put-count .ensures in
-    (
+    let put = call .put-count .ensures in (
       omega arith,
       omega arith,
       omega (arith, put .0),
       left-next (left-as (texts-next (λ code. countText code (getD figures (195 + code) 0)) (loop .loop .code) 28 (search needs)) (loop .loop .inv .3))
-      (put-as (λ k. countText (loop .loop .code) (c .before .before .before .figure .ensures k)) (put .1)),
+          (put-as (λ k. countText (loop .loop .code) (c .before .before .before .figure .ensures k)) (put .1)),
     )
 
 returns : tie.Need-returns Inv-loop μ-loop

@@ -34,14 +34,13 @@ loop-again c =
     let loop = c .before .before .before .before .before .before .before .before in
     let figures = c .before .before .before .before .before .before .before .before .before .before .before .before .args .figures .now in
     let i = loop .loop .i in
-    let put = call .put-row .ensures in
-    (
+    let put = call .put-row .ensures in (
       omega arith,
       omega (arith, put .0),
       left-next (left-as (texts-next (rowIn (sumsIn figures)) i 64 (search needs)) (loop .loop .inv .2))
-      (put-as
-      (λ k. rowText (i / 2 + 1) (i % 2 + 1) (c .before .before .before .before .before .before .figure2 .ensures k) (c .before .before .before .before .before .figure3 .ensures k) (c .before .before .before .before .figure4 .ensures k) (c .before .before .before .before .before .before .before .before .before .figure .ensures k))
-      (put .1)),
+          (put-as
+          (λ k. rowText (i / 2 + 1) (i % 2 + 1) (c .before .before .before .before .before .before .figure2 .ensures k) (c .before .before .before .before .before .figure3 .ensures k) (c .before .before .before .before .figure4 .ensures k) (c .before .before .before .before .before .before .before .before .before .figure .ensures k))
+          (put .1)),
     )
 
 returns : tie.Need-returns Inv-loop μ-loop
