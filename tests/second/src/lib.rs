@@ -9,6 +9,7 @@ pub mod cases;
 pub mod field;
 pub mod generator;
 pub mod hex;
+pub mod month;
 pub mod pdu;
 pub mod plan;
 pub mod printed;

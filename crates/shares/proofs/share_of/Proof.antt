@@ -12,9 +12,8 @@ use Rattle.shares.proofs.share_of.Tie as tie
 
 above : (c : tie.After-gcd) → 0 < c .gcd .result
 above c =
-    let start = c .before .before in
     subst (λ (g : ℕ). 0 < g) (sym (c .gcd .ensures))
-    (pos-of-dvd-of-pos (gcd-divides (start .args .part) (start .args .whole) .1) (positive-of _ (c .before .if1 .left)))
+    (pos-of-dvd-of-pos (gcd-divides _ _ .1) (positive-of _ (c .before .if1 .left)))
 
 returns : tie.Need-returns
 unfolding shareOf
