@@ -6,11 +6,14 @@ use Prim.Native.Nat.{ℕ, _≤_}
 use native.Mathlib.Nat.{zero-add}
 use native.Mathlib.Omega.{arith}
 use lib.Dec.{ltb}
-use lib.ListN.{length, drop, length-append}
+use lib.ListN.{length, drop, replicate, length-append, length-replicate, getD-replicate}
 use lib.Seq.{sets-eq}
 use borrow.Author.Tests.{le-ltb, eq-eqb, ne-eqb}
 use Rattle.laws.specs.Choice.{pick}
+use Rattle.laws.specs.Lists.{tabulate}
+use Rattle.laws.proofs.Lists.{tabulate-ext}
 use Rattle.writing.specs.Writing.{Put, atFront}
+use Rattle.call_log.specs.Figures.{figureCount}
 use Rattle.call_log.specs.Fed.{Fed, wrongLine}
 use Rattle.month_sheet.specs.Sheet.{sheetText, sumsIn, refusedText, printedText, sheetRoom, printedLength, printedBuffer}
 
@@ -45,3 +48,7 @@ printed-within f b e =
     go : (t : Bool) → pick t 0 (length (printedText f)) ≤ length (pick t b (atFront (printedText f) b))
     go true = omega arith
     go false = omega (arith, length-append (printedText f) (drop (length (printedText f)) b))
+
+-- figures that are all 0
+pub zeros-are : replicate {A = ℕ} 223 0 ≡ tabulate (λ k. 0) 0 figureCount
+zeros-are = tabulate-ext (λ k. 0) 0 223 0 (replicate {A = ℕ} 223 0) (length-replicate {A = ℕ} 223 0) (λ k h. getD-replicate 223 k 0 0 h)

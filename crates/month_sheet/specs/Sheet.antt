@@ -4,11 +4,12 @@ use Prim.Native.Nat.{ℕ, zero, suc, _+_, _*_, _/_, _%_}
 use lib.Dec.{eqb, ltb}
 use lib.ListN.{length, getD}
 use Rattle.laws.specs.Choice.{pick}
+use Rattle.laws.specs.Lists.{tabulate}
 use Rattle.writing.specs.Text.{digits, item, lineText}
 use Rattle.writing.specs.Writing.{atFront}
 use Rattle.shares.specs.Share.{shareOf}
-use Rattle.call_log.specs.Figures.{totalRow, callsAt, bitsAt, blocksAt, linesAt, countAt}
-use Rattle.call_log.specs.Fed.{Fed, wrongLine}
+use Rattle.call_log.specs.Figures.{figureCount, totalRow, callsAt, bitsAt, blocksAt, linesAt, countAt}
+use Rattle.call_log.specs.Fed.{Fed, fedTo, fed, lineStart, wrongLine}
 
 -- refusal 27 (document 02, [13]): a line of the call log is bad
 abbrev pub logLineBad : ℕ
@@ -78,6 +79,10 @@ refusedText line = item "refused=" (digits logLineBad) ++ lineText " line=" (dig
 -- what is printed of a log that is read: the sheet, or the first line that is wrong
 unfoldable pub printedText : Fed → List ℕ
 printedText f = pick (eqb (wrongLine (f .month)) 0) (sheetText (sumsIn (f .figures))) (refusedText (wrongLine (f .month)))
+
+-- a whole log, read from its first byte with all figures 0
+unfoldable pub wholeLog : List ℕ → Fed
+wholeLog log = fed (fedTo (lineStart 1) (tabulate (λ k. 0) 0 figureCount)) log
 
 -- no share, no line of a row, of a count or of the total is longer, nor what is printed
 abbrev pub longestShare : ℕ

@@ -19,6 +19,7 @@ ghost use Rattle.month_sheet.specs.Sheet.{
   sheetText,
   sumsIn,
   refusedText,
+  wholeLog,
   printedLength,
   printedBuffer,
   longestRow,
@@ -167,4 +168,15 @@ pub fn print<'a>(m: Month, figures: &'a [u64], buffer: &'a mut [u8]) -> usize
         return put_sheet(buffer, figures);
     }
     put_refused(buffer, line)
+}
+
+// The whole of a log at once: what is printed of it, at the front of the buffer, and its length.
+#[no_mangle]
+pub extern "C" fn month_of_log(log: &[u8], buffer: &mut [u8]) -> usize
+    ensures { λ r. ⌜ (r ≡ printedLength (wholeLog (now (log .entry))) (now (buffer .entry)))
+        × (now (buffer .exit) ≡ printedBuffer (wholeLog (now (log .entry))) (now (buffer .entry))) ⌝ }
+{
+    let mut figures = [0u64; 223];
+    let m = call_log::feed(call_log::start(), &mut figures, log);
+    print(m, &figures, buffer)
 }

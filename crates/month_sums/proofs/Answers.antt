@@ -9,15 +9,13 @@ use lib.Dec.{eqb, leb}
 use lib.ListN.{length, take}
 use borrow.Author.Tests.{eqb-true, eqb-false, lt-leb, le-leb}
 use Rattle.laws.specs.Choice.{pick}
-use Rattle.laws.specs.Lists.{tabulate}
 use Rattle.laws.proofs.Cases.{and-left, and-right, pick-cases}
 use Rattle.call_log.specs.declared.Call.{Call}
 use Rattle.call_log.specs.declared.Month.{Month}
 use Rattle.call_log.specs.Log.{Good, AllGood, callText, logText, mostLines}
-use Rattle.call_log.specs.Figures.{figureCount}
 use Rattle.call_log.specs.Fed.{Fed, fedTo, fed, lineStart, wrongLine, inNumber, nameOf}
 use Rattle.call_log.proofs.Feeds.{fed-append}
-use Rattle.month_sheet.specs.Sheet.{sheetText, sumsIn, refusedText, printedText}
+use Rattle.month_sheet.specs.Sheet.{sheetText, sumsIn, refusedText, printedText, wholeLog}
 use Rattle.month_sheet.proofs.Printed.{printed-sheet, printed-refused}
 use Rattle.month_sums.specs.Sums.{sumsOver}
 use Rattle.month_sums.specs.Answer.{NoGoodLine, GoodLog, BadLog}
@@ -25,10 +23,6 @@ use Rattle.month_sums.proofs.Prefix.{prefix, before, partText}
 use Rattle.month_sums.proofs.Logs.{figuresAfter, text-more, good-more, length-more, log-fed, fed-up}
 use Rattle.month_sums.proofs.First.{Read, Going, Wrong, read}
 use Rattle.month_sums.proofs.Figures.{zeros, sheet-is}
-
--- what the program feeds a log to, and what it prints of it
-unfoldable pub printedOf : List ℕ → List ℕ
-printedOf log = printedText (fed (fedTo (lineStart 1) zeros) log)
 
 -- where a good line comes next, it is read: so the line that is wrong is the first
 first-wrong : (log rest : List ℕ) (calls : List Call) → AllGood calls → log ≡ logText calls ++ rest
@@ -88,8 +82,8 @@ module _ (log : List ℕ) where
   abbrev f : Fed
   f = fed (fedTo (lineStart 1) zeros) log
 
-  bad : (r : Read zeros f log) → (r .rest ≡ [] → ⊥) → wrongLine (f .month) ≡ f .month .line → BadLog log (printedOf log)
-  unfolding printedOf
+  bad : (r : Read zeros f log) → (r .rest ≡ [] → ⊥) → wrongLine (f .month) ≡ f .month .line → BadLog log (printedText (wholeLog log))
+  unfolding wholeLog zeros
   bad r some w =
       let l : wrongLine (f .month) ≡ length (r .calls) + 1 = w ∙ r .line in
       record {
@@ -103,8 +97,8 @@ module _ (log : List ℕ) where
         line = printed-refused f (λ e. omega (arith, l, e)) ∙ ap refusedText l;
       }
 
-  whole : (r : Read zeros f log) → r .rest ≡ [] → wrongLine (f .month) ≡ 0 → GoodLog log (printedOf log)
-  unfolding printedOf
+  whole : (r : Read zeros f log) → r .rest ≡ [] → wrongLine (f .month) ≡ 0 → GoodLog log (printedText (wholeLog log))
+  unfolding wholeLog zeros
   whole r e w =
       record {
         calls = r .calls;
@@ -114,7 +108,8 @@ module _ (log : List ℕ) where
         sheet = printed-sheet f w ∙ (ap (λ (k : List ℕ). sheetText (sumsIn k)) (r .figures) ∙ sheet-is (r .calls) (r .good) (r .few));
       }
 
-  pub answered : GoodLog log (printedOf log) ⊎ BadLog log (printedOf log)
+  -- for every log, what is printed is the sheet of its good lines, or the first line that is not good
+  pub answered : GoodLog log (printedText (wholeLog log)) ⊎ BadLog log (printedText (wholeLog log))
   answered = ⊎-elim going (λ w. inr (bad r (w .more) (wrong w (eqb (f .month .part) 0 && eqb (f .month .at) 0) refl))) (r .state)
     where
       r : Read zeros f log
@@ -123,10 +118,10 @@ module _ (log : List ℕ) where
       wrong : Wrong (f .month) (read zeros log .rest) → (u : Bool) → eqb (f .month .part) 0 && eqb (f .month .at) 0 ≡ u → wrongLine (f .month) ≡ f .month .line
       wrong w u e = wrong-of (f .month) false u (w .bad) e
 
-      going : Going (f .month) (read zeros log .rest) → GoodLog log (printedOf log) ⊎ BadLog log (printedOf log)
+      going : Going (f .month) (read zeros log .rest) → GoodLog log (printedText (wholeLog log)) ⊎ BadLog log (printedText (wholeLog log))
       going g = go (eqb (f .month .part) 0 && eqb (f .month .at) 0) refl
         where
-          go : (t : Bool) → eqb (f .month .part) 0 && eqb (f .month .at) 0 ≡ t → GoodLog log (printedOf log) ⊎ BadLog log (printedOf log)
+          go : (t : Bool) → eqb (f .month .part) 0 && eqb (f .month .at) 0 ≡ t → GoodLog log (printedText (wholeLog log)) ⊎ BadLog log (printedText (wholeLog log))
           go true e = inl (whole (read zeros log) (g .text ∙ fresh-text (f .month) e) (wrong-of (f .month) true true (g .good) e))
           go false e =
               inr (bad (read zeros log) (λ z. prefix-some (f .month) e (sym (g .text) ∙ z)) (wrong-of (f .month) true false (g .good) e))

@@ -23,7 +23,7 @@ use Rattle.month_sheet.specs.Sheet.{rowText, countText, totalText, texts, rowIn
 use Rattle.month_sums.specs.Sums.{sumOver, inRow, sumsOver}
 use Rattle.month_sums.proofs.Logs.{figuresAfter}
 
-pub zeros : List ℕ
+unfoldable pub zeros : List ℕ
 zeros = tabulate (λ k. 0) 0 figureCount
 
 -- n where a place is i, else nothing
