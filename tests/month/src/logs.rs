@@ -18,7 +18,10 @@ impl Kind {
             1..=20 => generator.between(1_000, 4_000) as usize,
             _ => generator.below(24) as usize,
         };
-        Kind { lines, damaged: generator.below(2) == 0 }
+        Kind {
+            lines,
+            damaged: generator.below(2) == 0,
+        }
     }
 }
 
@@ -67,7 +70,10 @@ fn hard_line(generator: &mut Generator) -> Vec<u8> {
     let slot = edge(generator, &[0, 1, 32, 33, 65_535, 65_536]);
     let dir = edge(generator, &[0, 1, 2, 3]);
     let blocks = edge(generator, &[0, 1, 32, 33, 34]);
-    let bits = edge(generator, &[0, 1, 256 * blocks, 256 * blocks + 1, 8_288, 8_289]);
+    let bits = edge(
+        generator,
+        &[0, 1, 256 * blocks, 256 * blocks + 1, 8_288, 8_289],
+    );
     line(slot, dir, bits, blocks, code)
 }
 

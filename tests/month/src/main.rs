@@ -57,18 +57,33 @@ fn compare(program: &str, seed: u64, count: u64) -> Result<String, String> {
         }
     }
     if sheets == 0 || refused == 0 || full == 0 {
-        return Err(format!("{sheets} sheets, {refused} refused and {full} of full length: each is to be seen"));
+        return Err(format!(
+            "{sheets} sheets, {refused} refused and {full} of full length: each is to be seen"
+        ));
     }
     Ok(format!("month: {count} logs agree, {sheets} sheets and {refused} refused, {full} of 65,535 lines or more"))
 }
 
 fn run(program: &str, log: &[u8]) -> Result<Vec<u8>, String> {
     let fault = |error: std::io::Error| format!("{program}: {error}");
-    let mut child = Command::new(program).stdin(Stdio::piped()).stdout(Stdio::piped()).spawn().map_err(fault)?;
+    let mut child = Command::new(program)
+        .stdin(Stdio::piped())
+        .stdout(Stdio::piped())
+        .spawn()
+        .map_err(fault)?;
     // a program that has found a bad line reads no further: that its end of the pipe is shut is no fault
-    let _ = child.stdin.take().ok_or("no standard input")?.write_all(log);
+    let _ = child
+        .stdin
+        .take()
+        .ok_or("no standard input")?
+        .write_all(log);
     let mut printed = Vec::new();
-    child.stdout.take().ok_or("no standard output")?.read_to_end(&mut printed).map_err(fault)?;
+    child
+        .stdout
+        .take()
+        .ok_or("no standard output")?
+        .read_to_end(&mut printed)
+        .map_err(fault)?;
     let ended = child.wait().map_err(fault)?;
     if ended.success() {
         Ok(printed)
@@ -79,6 +94,8 @@ fn run(program: &str, log: &[u8]) -> Result<Vec<u8>, String> {
 
 fn first_line_that_differs(a: &[u8], b: &[u8]) -> String {
     let mut others = b.split(|&x| x == b'\n');
-    let line = a.split(|&x| x == b'\n').find(|line| others.next() != Some(line));
+    let line = a
+        .split(|&x| x == b'\n')
+        .find(|line| others.next() != Some(line));
     String::from_utf8_lossy(line.unwrap_or(b"nothing")).into_owned()
 }

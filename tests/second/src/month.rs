@@ -82,17 +82,30 @@ fn sheet(calls: &[Call]) -> Vec<u8> {
     let mut text = String::new();
     for slot in 1..=32 {
         for dir in 1..=2 {
-            let own: Vec<&Call> = accepted.iter().copied().filter(|call| call.slot == slot && call.dir == dir).collect();
+            let own: Vec<&Call> = accepted
+                .iter()
+                .copied()
+                .filter(|call| call.slot == slot && call.dir == dir)
+                .collect();
             let (bits, blocks) = sums(&own);
             let (top, bottom) = lowest(bits, all.0, &primes);
-            text += &format!("slot={slot} dir={dir} calls={} bits={bits} blocks={blocks} share={top}/{bottom}\n", own.len());
+            text += &format!(
+                "slot={slot} dir={dir} calls={} bits={bits} blocks={blocks} share={top}/{bottom}\n",
+                own.len()
+            );
         }
     }
     for code in 1..=LARGEST_CODE {
         let count = calls.iter().filter(|call| call.code == code).count();
         text += &format!("code={code} count={count}\n");
     }
-    text += &format!("lines={} calls={} bits={} blocks={}\n", calls.len(), accepted.len(), all.0, all.1);
+    text += &format!(
+        "lines={} calls={} bits={} blocks={}\n",
+        calls.len(),
+        accepted.len(),
+        all.0,
+        all.1
+    );
     text.into_bytes()
 }
 

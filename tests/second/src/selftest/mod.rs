@@ -3,6 +3,7 @@
 
 mod card;
 mod cipher;
+mod month;
 mod pdu;
 mod plan;
 mod records;
@@ -25,6 +26,7 @@ pub fn checks() -> Vec<Check> {
         card::CHECKS,
         records::CHECKS,
         plan::CHECKS,
+        month::CHECKS,
         pdu::CHECKS,
     ]
     .concat()
