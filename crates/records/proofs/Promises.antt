@@ -5,13 +5,14 @@ use mathlib.Core.Path.{_≡_, refl, sym, ap, subst, _∙_}
 use mathlib.Core.Logic.{_⊎_, inl, inr, ⊎-elim}
 use mathlib.Core.Bool.{Bool, true, false, true≢false}
 use mathlib.Core.List.{List, [], _∷_, _++_, append-nil, append-assoc}
-use Prim.Native.Nat.{ℕ, suc, _+_, _≤_, _<_}
+use Prim.Native.Nat.{ℕ, zero, suc, _+_, _≤_, _<_}
 use native.Mathlib.Nat.{zero-add, eq-or-lt-of-le}
 use native.Mathlib.Numerals.{add-one}
 use native.Mathlib.Omega.{arith}
+use lib.Dec.{eqb}
 use lib.ListN.{length, getD, take, drop, take-append-drop}
 use lib.Seq.{take-at, take-take, take-suc, drop-cons}
-use borrow.Author.Tests.{eqb-true}
+use borrow.Author.Tests.{eqb-true, eq-eqb}
 use Rattle.laws.specs.Choice.{pick}
 use Rattle.laws.proofs.Cases.{lt-or-le}
 use Rattle.refusals.specs.Numbers.{done, recordTextBad}
@@ -228,6 +229,31 @@ line-number s r =
         let z : _≡_ {A = ℕ} done recordTextBad =
         sym (ap (λ x. x .refusal) (good-is-read s (c .two) (c .number) (c .fields) (c .key) b)) ∙ ap (λ x. x .refusal) (r .answer) in
         omega arith
+
+first-byte : (s more : List ℕ) (p : ℕ) → 0 < lineEnds (take p s) → getD (take p s ++ more) 0 0 ≡ getD s 0 0
+unfolding lineEnds
+first-byte [] more zero h = absurd (omega arith)
+first-byte [] more (suc p) h = absurd (omega arith)
+first-byte (b ∷ s) more zero h = absurd (omega arith)
+first-byte (b ∷ s) more (suc p) h = refl
+
+-- lines above 7 only in a text whose first line is that of form 2
+pub above-seven : (s : List ℕ) (r : Refused s) → 7 < recordRead s .line → startsForm s ≡ true
+unfolding lineOf startsForm formText
+above-seven s r h = go (r .stuck .could .two) refl
+  where
+    line : recordRead s .line ≡ 1 + lineEnds (take (r .place) s)
+    line = ap (λ x. x .line) (r .answer)
+
+    go : (two : Bool) → r .stuck .could .two ≡ two → eqb (getD s 0 0) 102 ≡ true
+    go true e =
+        let c = r .stuck .could in
+        eq-eqb (getD s 0 0) 102
+        (sym (first-byte s (c .more) (r .place) (omega (arith, line, h))) ∙ ap (λ (l : List ℕ). getD l 0 0) (sym (c .is))
+        ∙ ap (λ (two : Bool). getD (formText two (c .number) (c .fields) (c .key)) 0 0) e)
+    go false e =
+        let most : recordRead s .line ≤ 7 = subst (λ (two : Bool). recordRead s .line ≤ pick two 10 7) e (line-number s r .1) in
+        absurd (omega (arith, h, most))
 
 -- WRITING, in form 2 only
 
