@@ -5,11 +5,11 @@ use native.Mathlib.Omega.{arith}
 use lib.Dec.{eqb}
 use Rattle.laws.specs.Choice.{pick}
 use Rattle.call_log.specs.Log.{largestNumber, largestCode}
-use Rattle.call_log.specs.Fed.{highOf, lastPart}
+use Rattle.call_log.specs.Fed.{highOf, finalPart}
 
 pub high-most : (part : ℕ) → highOf part ≤ largestNumber
 unfolding highOf
-high-most part = go (eqb part lastPart)
+high-most part = go (eqb part finalPart)
   where
     go : (t : Bool) → pick t largestCode largestNumber ≤ largestNumber
     go true = omega arith

@@ -9,7 +9,7 @@ use Rattle.laws.proofs.Cases.{and-left, and-right}
 use Rattle.fields.specs.Fields.{between}
 use Rattle.fields.proofs.Ranges.{between-low, between-high}
 use Rattle.call_log.specs.declared.Call.{Call}
-use Rattle.call_log.specs.Log.{isSound, soundAccepted, soundRefused, mostBits, mostBlocks, largestCode}
+use Rattle.call_log.specs.Log.{isSound, soundAccepted, soundRefused, mostBits, largestBlocks, largestCode}
 
 -- an accepted call's numbers
 pub record Ranges (slot direction bits blocks : ℕ) : Type 0 where
@@ -18,7 +18,7 @@ pub record Ranges (slot direction bits blocks : ℕ) : Type 0 where
   pub direction-low : 1 ≤ direction
   pub direction-high : direction ≤ 2
   pub bits-high : bits ≤ mostBits
-  pub blocks-high : blocks ≤ mostBlocks
+  pub blocks-high : blocks ≤ largestBlocks
 
 ranges : (s d b k : ℕ) → soundAccepted s d b k ≡ true → Ranges s d b k
 unfolding soundAccepted
@@ -34,7 +34,7 @@ ranges s d b k e =
       direction-low = between-low 1 d 2 direction;
       direction-high = between-high 1 d 2 direction;
       bits-high = leb-true b mostBits (and-left (leb b mostBits) _ e2);
-      blocks-high = leb-true k mostBlocks (and-left (leb k mostBlocks) _ e3);
+      blocks-high = leb-true k largestBlocks (and-left (leb k largestBlocks) _ e3);
     }
 
 pub accepted-ranges : (c : Call) → isSound c ≡ true → c .code ≡ 0 → Ranges (c .slot) (c .direction) (c .bits) (c .blocks)

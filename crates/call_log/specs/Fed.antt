@@ -13,8 +13,8 @@ use Rattle.call_log.specs.Log.{isSound, largestNumber, largestCode, most
 use Rattle.call_log.specs.Figures.{added}
 
 -- the name of a part of a line, with the space before it
-unfoldable pub nameOf : ℕ → List ℕ
-nameOf part =
+unfoldable pub partName : ℕ → List ℕ
+partName part =
     pick (eqb part 0) (ascii "slot=")
     (pick (eqb part 1) (ascii " dir=")
     (pick (eqb part 2) (ascii " bits=")
@@ -23,14 +23,14 @@ nameOf part =
 
 -- a byte of that name, or 0 behind it
 unfoldable pub nameByte : ℕ → ℕ → ℕ
-nameByte part at = getD (nameOf part) at 0
+nameByte part at = getD (partName part) at 0
 
-abbrev pub lastPart : ℕ
-lastPart = 4
+abbrev pub finalPart : ℕ
+finalPart = 4
 
 -- the largest number of a part
 unfoldable pub highOf : ℕ → ℕ
-highOf part = pick (eqb part lastPart) largestCode largestNumber
+highOf part = pick (eqb part finalPart) largestCode largestNumber
 
 -- of a part, a digit of its number is read: no name is so long
 abbrev pub inNumber : ℕ
@@ -47,8 +47,8 @@ stopped line =
     record { line = line; good = false; part = 0; at = 0; number = 0; first = 0; second = 0; third = 0; fourth = 0 }
 
 -- so far into a part
-abbrev pub within : Month → ℕ → ℕ → Month
-within m at number =
+abbrev pub soFar : Month → ℕ → ℕ → Month
+soFar m at number =
     record { line = m .line; good = true; part = m .part; at = at; number = number; first = m .first; second = m .second; third = m .third; fourth = m .fourth }
 
 -- the space before the next part's name is read: the number joins the four before it
@@ -60,17 +60,17 @@ nextPart m part =
 unfoldable pub afterDigit : Month → ℕ → Month
 afterDigit m b =
     pick (mayFollow (highOf (m .part)) (m .number) b)
-    (within m inNumber (m .number * 10 + (b - 48)))
-    (pick (leb lastPart (m .part)) (stopped (m .line))
+    (soFar m inNumber (m .number * 10 + (b - 48)))
+    (pick (leb finalPart (m .part)) (stopped (m .line))
     (pick (eqb b 32) (nextPart m (m .part + 1)) (stopped (m .line))))
 
 -- behind a name: the first digit of its number
 unfoldable pub firstDigit : Month → ℕ → Month
-firstDigit m b = pick (mayBegin 0 (highOf (m .part)) b) (within m inNumber (b - 48)) (stopped (m .line))
+firstDigit m b = pick (mayBegin 0 (highOf (m .part)) b) (soFar m inNumber (b - 48)) (stopped (m .line))
 
 -- a byte of a name
 unfoldable pub ofName : Month → ℕ → ℕ → Month
-ofName m name b = pick (eqb b name) (within m (m .at + 1) 0) (stopped (m .line))
+ofName m name b = pick (eqb b name) (soFar m (m .at + 1) 0) (stopped (m .line))
 
 -- a byte that does not end a line
 unfoldable pub inLine : Month → ℕ → Month
@@ -80,7 +80,7 @@ inLine m b =
 
 -- LF after the last part's number
 unfoldable pub endsLine : Month → ℕ → Bool
-endsLine m b = eqb b lf && (eqb (m .part) lastPart && leb inNumber (m .at))
+endsLine m b = eqb b lf && (eqb (m .part) finalPart && leb inNumber (m .at))
 
 -- the numbers of a line that ends
 abbrev pub callOf : Month → Call

@@ -43,8 +43,8 @@ abbrev pub mostBits : ℕ
 mostBits = 8288
 
 -- the blocks of a call, at most
-abbrev pub mostBlocks : ℕ
-mostBlocks = 33
+abbrev pub largestBlocks : ℕ
+largestBlocks = 33
 
 -- an accepted call's slot is 1 to 32 and its direction 1 or 2; its bits fit its blocks, and there are no blocks where there are no bits
 unfoldable pub soundAccepted : ℕ → ℕ → ℕ → ℕ → Bool
@@ -52,7 +52,7 @@ soundAccepted slot direction bits blocks =
     between 1 slot 32
     && (between 1 direction 2
     && (leb bits mostBits
-    && (leb blocks mostBlocks
+    && (leb blocks largestBlocks
     && (leb bits (256 * blocks)
     && (ltb 0 bits || eqb blocks 0)))))
 

@@ -5,7 +5,7 @@ use reading::may_follow;
 ghost use mathlib.Core.Path.{_≡_};
 ghost use Prim.Native.Nat.{_-_, _<_, _≤_};
 ghost use lib.ListN.{getD};
-ghost use Rattle.call_log.specs.Fed.{lineStart, stopped, within, nextPart, highOf, nameByte, afterDigit, firstDigit, ofName, inLine};
+ghost use Rattle.call_log.specs.Fed.{lineStart, stopped, soFar, nextPart, highOf, nameByte, afterDigit, firstDigit, ofName, inLine};
 
 const LAST_PART: u64 = 4;
 
@@ -43,8 +43,8 @@ pub fn stopped(line: u64) -> Month
     }
 }
 
-fn within(m: Month, at: u64, number: u64) -> Month
-    ensures { λ r. ⌜ r ≡ within m at number ⌝ }
+fn so_far(m: Month, at: u64, number: u64) -> Month
+    ensures { λ r. ⌜ r ≡ soFar m at number ⌝ }
 {
     Month {
         line: m.line,
@@ -129,7 +129,7 @@ fn after_digit(m: Month, b: u8) -> Month
     ensures { λ r. ⌜ r ≡ afterDigit m b ⌝ }
 {
     if may_follow(high_of(m.part), m.number, b) {
-        return within(m, IN_NUMBER, m.number * 10 + digit(b));
+        return so_far(m, IN_NUMBER, m.number * 10 + digit(b));
     }
     if LAST_PART <= m.part {
         return stopped(m.line);
@@ -145,7 +145,7 @@ fn first_digit(m: Month, b: u8) -> Month
     ensures { λ r. ⌜ r ≡ firstDigit m b ⌝ }
 {
     if may_begin(0, high_of(m.part), b) {
-        return within(m, IN_NUMBER, digit(b));
+        return so_far(m, IN_NUMBER, digit(b));
     }
     stopped(m.line)
 }
@@ -156,7 +156,7 @@ fn of_name(m: Month, name: u8, b: u8) -> Month
     ensures { λ r. ⌜ r ≡ ofName m name b ⌝ }
 {
     if b == name {
-        return within(m, m.at + 1, 0);
+        return so_far(m, m.at + 1, 0);
     }
     stopped(m.line)
 }

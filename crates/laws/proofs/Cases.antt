@@ -51,11 +51,6 @@ ltb-same a b c d f g = go (lt-or-le a b)
     go (inl h) = lt-ltb a b h ∙ sym (lt-ltb c d (f h))
     go (inr h) = le-ltb a b h ∙ sym (le-ltb c d (g h))
 
--- two tests with one answer are one test
-pub pick-either : {A : Type 0} (a b : Bool) (x y : A) → pick a x (pick b x y) ≡ pick (a || b) x y
-pick-either true b x y = refl
-pick-either false b x y = refl
-
 -- neither of two tests holds
 pub neither : (a b : Bool) → (a || b) ≡ false → (a ≡ false) × (b ≡ false)
 neither true b e = absurd (true≢false e)

@@ -10,7 +10,7 @@ use Rattle.laws.specs.Choice.{pick}
 use Rattle.writing.specs.Text.{digits, lineText, item}
 use Rattle.writing.proofs.Digits.{digits-fit, item-length, line-length}
 use Rattle.shares.specs.Share.{gcd, fractionOf, shareOf}
-use Rattle.month_sheet.specs.Sheet.{shareText, rowText, countText, totalText, refusedText, longestShare, longestRow, longestCount, longestTotal}
+use Rattle.month_sheet.specs.Sheet.{shareText, rowText, countText, totalText, wrongLineText, longestShare, longestRow, longestCount, longestTotal}
 
 -- a number of 64 bits has at most 20 digits
 twenty : (n : ℕ) → n < 18446744073709551616 → length (digits n) ≤ 20
@@ -40,8 +40,8 @@ module _ (a b : ℕ) (ha : a < 18446744073709551616) (hb : b < 18446744073709551
   count-short =
       omega (arith, item-length "code=" (digits a) (lineText " count=" (digits b)), line-length " count=" (digits b), twenty a ha, twenty b hb)
 
-pub refused-short : (n : ℕ) → n < 18446744073709551616 → length (refusedText n) ≤ longestTotal
-unfolding refusedText
+pub refused-short : (n : ℕ) → n < 18446744073709551616 → length (wrongLineText n) ≤ longestTotal
+unfolding wrongLineText
 refused-short n h =
     omega (arith, item-length "refused=" (digits 27) (lineText " line=" (digits n)), line-length " line=" (digits n), twenty 27 (omega arith), twenty n h)
 

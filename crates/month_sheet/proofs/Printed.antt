@@ -15,7 +15,7 @@ use Rattle.laws.proofs.Lists.{tabulate-ext}
 use Rattle.writing.specs.Writing.{Put, atFront}
 use Rattle.call_log.specs.Figures.{figureCount}
 use Rattle.call_log.specs.Fed.{Fed, wrongLine}
-use Rattle.month_sheet.specs.Sheet.{sheetText, sumsIn, refusedText, printedText, sheetRoom, printedLength, printedBuffer}
+use Rattle.month_sheet.specs.Sheet.{sheetText, sumsIn, wrongLineText, printedText, sheetRoom, printedLength, printedBuffer}
 
 -- the text, by the line that is wrong
 
@@ -24,7 +24,7 @@ module _ (f : Fed) where
   unfolding printedText
   printed-sheet e = rw (eq-eqb (wrongLine (f .month)) 0 e)
 
-  pub printed-refused : (wrongLine (f .month) ≡ 0 → ⊥) → printedText f ≡ refusedText (wrongLine (f .month))
+  pub printed-refused : (wrongLine (f .month) ≡ 0 → ⊥) → printedText f ≡ wrongLineText (wrongLine (f .month))
   unfolding printedText
   printed-refused n = rw (ne-eqb (wrongLine (f .month)) 0 n)
 

@@ -73,12 +73,12 @@ sumsIn figures =
       lines = getD figures linesAt 0;
     }
 
-unfoldable pub refusedText : ℕ → List ℕ
-refusedText line = item "refused=" (digits logLineBad) ++ lineText " line=" (digits line)
+unfoldable pub wrongLineText : ℕ → List ℕ
+wrongLineText line = item "refused=" (digits logLineBad) ++ lineText " line=" (digits line)
 
 -- what is printed of a log that is read: the sheet, or the first line that is wrong
 unfoldable pub printedText : Fed → List ℕ
-printedText f = pick (eqb (wrongLine (f .month)) 0) (sheetText (sumsIn (f .figures))) (refusedText (wrongLine (f .month)))
+printedText f = pick (eqb (wrongLine (f .month)) 0) (sheetText (sumsIn (f .figures))) (wrongLineText (wrongLine (f .month)))
 
 -- a whole log, read from its first byte with all figures 0
 unfoldable pub wholeLog : List ℕ → Fed

@@ -18,7 +18,7 @@ ghost use Rattle.month_sheet.specs.Sheet.{
   rowIn,
   sheetText,
   sumsIn,
-  refusedText,
+  wrongLineText,
   wholeLog,
   printedLength,
   printedBuffer,
@@ -149,7 +149,7 @@ fn put_sheet<'a>(buffer: &'a mut [u8], figures: &'a [u64]) -> usize
 
 fn put_refused(buffer: &mut [u8], line: u64) -> usize
     requires { ⌜ sheetRoom ≤ length (now buffer) ⌝ }
-    ensures { λ r. ⌜ (r ≤ sheetRoom) × Put (now (buffer .entry)) 0 (refusedText line) (now (buffer .exit)) r ⌝ }
+    ensures { λ r. ⌜ (r ≤ sheetRoom) × Put (now (buffer .entry)) 0 (wrongLineText line) (now (buffer .exit)) r ⌝ }
 {
     let end = put_item(buffer, 0, b"refused=", LOG_LINE);
     put_line(buffer, end, b" line=", line)

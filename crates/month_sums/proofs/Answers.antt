@@ -13,9 +13,9 @@ use Rattle.laws.proofs.Cases.{and-left, and-right, pick-cases}
 use Rattle.call_log.specs.declared.Call.{Call}
 use Rattle.call_log.specs.declared.Month.{Month}
 use Rattle.call_log.specs.Log.{Good, AllGood, callText, logText, mostLines}
-use Rattle.call_log.specs.Fed.{Fed, fedTo, fed, lineStart, wrongLine, inNumber, nameOf}
+use Rattle.call_log.specs.Fed.{Fed, fedTo, fed, lineStart, wrongLine, inNumber, partName}
 use Rattle.call_log.proofs.Feeds.{fed-append}
-use Rattle.month_sheet.specs.Sheet.{sheetText, sumsIn, refusedText, printedText, wholeLog}
+use Rattle.month_sheet.specs.Sheet.{sheetText, sumsIn, wrongLineText, printedText, wholeLog}
 use Rattle.month_sheet.proofs.Printed.{printed-sheet, printed-refused}
 use Rattle.month_sums.specs.Sums.{sumsOver}
 use Rattle.month_sums.specs.Answer.{NoGoodLine, GoodLog, BadLog}
@@ -47,11 +47,11 @@ cons-some : {x : ℕ} {l : List ℕ} → x ∷ l ≡ [] → ⊥
 cons-some e = let z : _≡_ {A = ℕ} 0 1 = cc in omega arith
 
 part-some : (a n : ℕ) → partText 0 (suc a) n ≡ [] → ⊥
-unfolding partText nameOf
+unfolding partText partName
 part-some a n = pick-cases (λ l. l ≡ [] → ⊥) (leb inNumber (suc a)) (λ _ e. cons-some e) (λ _ e. cons-some e)
 
 prefix-some : (m : Month) → (eqb (m .part) 0 && eqb (m .at) 0 ≡ false) → prefix m ≡ [] → ⊥
-unfolding prefix before nameOf
+unfolding prefix before partName
 prefix-some m e = go (m .part) (m .at) e
   where
     go : (p a : ℕ) → (eqb p 0 && eqb a 0 ≡ false) → before p (m .first) (m .second) (m .third) (m .fourth) ++ partText p a (m .number) ≡ [] → ⊥
@@ -94,7 +94,7 @@ module _ (log : List ℕ) where
         few = r .few;
         more = some;
         first = first-wrong log (r .rest) (r .calls) (r .good) (r .is) (r .line);
-        line = printed-refused f (λ e. omega (arith, l, e)) ∙ ap refusedText l;
+        line = printed-refused f (λ e. omega (arith, l, e)) ∙ ap wrongLineText l;
       }
 
   whole : (r : Read zeros f log) → r .rest ≡ [] → wrongLine (f .month) ≡ 0 → GoodLog log (printedText (wholeLog log))

@@ -15,12 +15,12 @@ use Rattle.laws.specs.Lists.{tabulate}
 use Rattle.laws.proofs.Lists.{length-tabulate, getD-tabulate}
 use Rattle.laws.proofs.Cases.{eq-or-ne, lt-or-le}
 use Rattle.call_log.specs.declared.Call.{Call}
-use Rattle.call_log.specs.Log.{Good, AllGood, none, more, isAccepted, isSound, mostBits, mostBlocks, mostLines}
+use Rattle.call_log.specs.Log.{Good, AllGood, none, more, isAccepted, isSound, mostBits, largestBlocks, mostLines}
 use Rattle.call_log.specs.Figures.{figureCount, rowOf, totalRow, callsAt, bitsAt, blocksAt, linesAt, countAt, plus, intoRow, addedAccepted, addedRefused, added}
 use Rattle.call_log.proofs.Sizes.{plus-size, added-size}
 use Rattle.call_log.proofs.Sound.{Ranges, accepted-ranges, refused-code}
 use Rattle.month_sheet.specs.Sheet.{rowText, countText, totalText, texts, rowIn, sheetText, sumsIn}
-use Rattle.month_sums.specs.Sums.{sumOver, inRow, sumsOver}
+use Rattle.month_sums.specs.Sums.{sumOfLines, inRow, sumsOver}
 use Rattle.month_sums.proofs.Logs.{figuresAfter}
 
 unfoldable pub zeros : List ℕ
@@ -134,8 +134,8 @@ line-adds f B s e l c g = ⊎-elim yes no (eq-or-ne (c .code) 0)
 -- and lines
 
 pub after-at : (cs : List Call) (f : List ℕ) (B : ℕ) → AllGood cs → Small f B → length f ≡ 223 → B + 58016 * length cs < 18446744073709551616
-    → (k : ℕ) → getD (figuresAfter f cs) k 0 ≡ getD f k 0 + sumOver (amount k) cs
-unfolding figuresAfter sumOver Small
+    → (k : ℕ) → getD (figuresAfter f cs) k 0 ≡ getD f k 0 + sumOfLines (amount k) cs
+unfolding figuresAfter sumOfLines Small
 after-at [] f B none s e l k = omega arith
 after-at (c ∷ cs) f B (more g a) s e l k =
     let d = line-adds f B s e (omega arith) c (g .sound) in
@@ -143,13 +143,13 @@ after-at (c ∷ cs) f B (more g a) s e l k =
     omega (arith, r, d .at k)
 
 -- the same sum, where each good line adds the same
-pub sum-same : (f g : Call → ℕ) (cs : List Call) → AllGood cs → ((c : Call) → Good c → f c ≡ g c) → sumOver f cs ≡ sumOver g cs
-unfolding sumOver
+pub sum-same : (f g : Call → ℕ) (cs : List Call) → AllGood cs → ((c : Call) → Good c → f c ≡ g c) → sumOfLines f cs ≡ sumOfLines g cs
+unfolding sumOfLines
 sum-same f g [] none e = refl
 sum-same f g (c ∷ cs) (more h a) e = λ i. e c h i + sum-same f g cs a e i
 
-pub sum-ones : (cs : List Call) → sumOver (λ c. 1) cs ≡ length cs
-unfolding sumOver
+pub sum-ones : (cs : List Call) → sumOfLines (λ c. 1) cs ≡ length cs
+unfolding sumOfLines
 sum-ones [] = refl
 sum-ones (c ∷ cs) = omega (arith, sum-ones cs)
 
@@ -339,7 +339,7 @@ unfolding zeros
 zeros-size = length-tabulate (λ k. 0) 0 figureCount
 
 module _ (cs : List Call) (good : AllGood cs) (few : length cs ≤ mostLines) where
-  figure-is : (k : ℕ) (f : Call → ℕ) → ((c : Call) → Good c → amount k c ≡ f c) → getD (figuresAfter zeros cs) k 0 ≡ sumOver f cs
+  figure-is : (k : ℕ) (f : Call → ℕ) → ((c : Call) → Good c → amount k c ≡ f c) → getD (figuresAfter zeros cs) k 0 ≡ sumOfLines f cs
   unfolding Small
   figure-is k f e =
       let a = after-at cs zeros 0 good (λ j. omega (arith, zero-at j)) zeros-size (omega arith) k in

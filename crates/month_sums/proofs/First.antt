@@ -14,7 +14,7 @@ use Rattle.call_log.specs.declared.Call.{Call}
 use Rattle.call_log.specs.declared.Month.{Month}
 use Rattle.call_log.specs.Log.{Good, AllGood, none, callText, logText, isSound, mostLines}
 use Rattle.call_log.specs.Figures.{added}
-use Rattle.call_log.specs.Fed.{Fed, fedTo, fed, fedByte, lineStart, stopped, lastPart, inNumber, inLine, endsLine, ended, taken, callOf}
+use Rattle.call_log.specs.Fed.{Fed, fedTo, fed, fedByte, lineStart, stopped, finalPart, inNumber, inLine, endsLine, ended, taken, callOf}
 use Rattle.call_log.proofs.Feeds.{fed-append}
 use Rattle.call_log.proofs.Bytes.{byte-wrong, byte-ends, byte-in, picked}
 use Rattle.month_sums.proofs.Prefix.{prefix, Fine, Joined, After, in-line, ended-text, ended-form, start-text}
@@ -109,8 +109,8 @@ module _ {start : List ℕ} (f : Fed) (log : List ℕ) (r : Read start f log) (g
   ends-now e =
       let l = eqb-true x lf (and-left (eqb x lf) _ e) in
       let e1 = and-right (eqb x lf) _ e in
-      let p = eqb-true (f .month .part) lastPart (and-left (eqb (f .month .part) lastPart) _ e1) in
-      let a = leb-true inNumber (f .month .at) (and-right (eqb (f .month .part) lastPart) _ e1) in
+      let p = eqb-true (f .month .part) finalPart (and-left (eqb (f .month .part) finalPart) _ e1) in
+      let a = leb-true inNumber (f .month .at) (and-right (eqb (f .month .part) finalPart) _ e1) in
       go l p a (leb (f .month .line) mostLines && isSound (callOf (f .month))) refl
     where
       go : x ≡ lf → f .month .part ≡ 4 → 9 ≤ f .month .at → (t : Bool) → leb (f .month .line) mostLines && isSound (callOf (f .month)) ≡ t → Read start (fedByte f x) (log ++ (x ∷ []))

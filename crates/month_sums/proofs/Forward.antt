@@ -16,7 +16,7 @@ use Rattle.call_log.specs.declared.Call.{Call}
 use Rattle.call_log.specs.declared.Month.{Month}
 use Rattle.call_log.specs.Log.{Good, callText, isSound, mostLines}
 use Rattle.call_log.specs.Figures.{added}
-use Rattle.call_log.specs.Fed.{Fed, fedTo, fed, fedByte, lineStart, within, inNumber, nextPart, highOf, nameByte, nameOf, inLine, afterDigit, firstDigit, ofName, endsLine, ended, taken, callOf}
+use Rattle.call_log.specs.Fed.{Fed, fedTo, fed, fedByte, lineStart, soFar, inNumber, nextPart, highOf, nameByte, partName, inLine, afterDigit, firstDigit, ofName, endsLine, ended, taken, callOf}
 use Rattle.call_log.proofs.Feeds.{fed-append}
 use Rattle.call_log.proofs.Bytes.{byte-ends, byte-in, picked}
 
@@ -40,12 +40,12 @@ module _ (line part a b c d : ℕ) (figures : List ℕ) where
   first-digit place n h e l m =
       let z : 48 + n - 48 ≡ n = omega arith in
       byte-in (st place 0) (48 + n) refl (not-end place 0 (48 + n) (λ e. omega arith))
-      ∙ ap (λ (m : Month). fedTo m figures) (go ∙ ap (within (at line part place 0 a b c d) inNumber) z)
+      ∙ ap (λ (m : Month). fedTo m figures) (go ∙ ap (soFar (at line part place 0 a b c d) inNumber) z)
     where
       begins : mayBegin 0 (highOf part) (48 + n) ≡ true
       begins = rw (between-is 48 (48 + n) 57 (omega arith) (omega arith)) (between-is 0 (48 + n - 48) (highOf part) (omega arith) (omega arith))
 
-      go : inLine (at line part place 0 a b c d) (48 + n) ≡ within (at line part place 0 a b c d) inNumber (48 + n - 48)
+      go : inLine (at line part place 0 a b c d) (48 + n) ≡ soFar (at line part place 0 a b c d) inNumber (48 + n - 48)
       go = rw (lt-leb 9 place h, eq-eqb (nameByte part place) 0 e, begins)
 
   -- one more
@@ -54,9 +54,9 @@ module _ (line part a b c d : ℕ) (figures : List ℕ) where
   next-digit m n l h k =
       let z : 48 + n - 48 ≡ n = omega arith in
       byte-in (st inNumber m) (48 + n) refl (not-end inNumber m (48 + n) (λ e. omega arith))
-      ∙ ap (λ (m : Month). fedTo m figures) (go ∙ ap (λ (x : ℕ). within (at line part inNumber m a b c d) inNumber (m * 10 + x)) z)
+      ∙ ap (λ (m : Month). fedTo m figures) (go ∙ ap (λ (x : ℕ). soFar (at line part inNumber m a b c d) inNumber (m * 10 + x)) z)
     where
-      go : inLine (at line part inNumber m a b c d) (48 + n) ≡ within (at line part inNumber m a b c d) inNumber (m * 10 + (48 + n - 48))
+      go : inLine (at line part inNumber m a b c d) (48 + n) ≡ soFar (at line part inNumber m a b c d) inNumber (m * 10 + (48 + n - 48))
       go = rw (follow-yes (highOf part) m n l h k)
 
   number-within : (k place n : ℕ) → n ≤ k → place < 9 → nameByte part place ≡ 0 → n ≤ highOf part → fed (st place 0) (digits n) ≡ st inNumber n
@@ -82,24 +82,24 @@ module _ (line part a b c d : ℕ) (figures : List ℕ) where
 
 module _ (line : ℕ) (figures rest : List ℕ) where
   slot-fed : fed (fedTo (lineStart line) figures) (ascii "slot=" ++ rest) ≡ fed (fedTo (at line 0 5 0 0 0 0 0) figures) rest
-  unfolding fed fedByte endsLine inLine ofName nameByte nameOf
+  unfolding fed fedByte endsLine inLine ofName nameByte partName
   slot-fed = refl
 
   module _ (n a b c d : ℕ) where
     dir-fed : fed (fedTo (at line 0 inNumber n a b c d) figures) (ascii " dir=" ++ rest) ≡ fed (fedTo (at line 1 5 0 b c d n) figures) rest
-    unfolding fed fedByte endsLine inLine afterDigit ofName nameByte nameOf mayFollow
+    unfolding fed fedByte endsLine inLine afterDigit ofName nameByte partName mayFollow
     dir-fed = refl
 
     bits-fed : fed (fedTo (at line 1 inNumber n a b c d) figures) (ascii " bits=" ++ rest) ≡ fed (fedTo (at line 2 6 0 b c d n) figures) rest
-    unfolding fed fedByte endsLine inLine afterDigit ofName nameByte nameOf mayFollow
+    unfolding fed fedByte endsLine inLine afterDigit ofName nameByte partName mayFollow
     bits-fed = refl
 
     blocks-fed : fed (fedTo (at line 2 inNumber n a b c d) figures) (ascii " blocks=" ++ rest) ≡ fed (fedTo (at line 3 8 0 b c d n) figures) rest
-    unfolding fed fedByte endsLine inLine afterDigit ofName nameByte nameOf mayFollow
+    unfolding fed fedByte endsLine inLine afterDigit ofName nameByte partName mayFollow
     blocks-fed = refl
 
     code-fed : fed (fedTo (at line 3 inNumber n a b c d) figures) (ascii " code=" ++ rest) ≡ fed (fedTo (at line 4 6 0 b c d n) figures) rest
-    unfolding fed fedByte endsLine inLine afterDigit ofName nameByte nameOf mayFollow
+    unfolding fed fedByte endsLine inLine afterDigit ofName nameByte partName mayFollow
     code-fed = refl
 
     end-fed : fed (fedTo (at line 4 inNumber n a b c d) figures) (lf ∷ []) ≡ ended (at line 4 inNumber n a b c d) figures
@@ -114,7 +114,7 @@ ended-good m figures h e = rw (le-leb (m .line) mostLines h, e)
 
 pub line-fed : (c : Call) (line : ℕ) (figures : List ℕ) → Good c → line ≤ mostLines
     → fed (fedTo (lineStart line) figures) (callText c) ≡ fedTo (lineStart (line + 1)) (added figures c)
-unfolding callText highOf nameByte nameOf
+unfolding callText highOf nameByte partName
 line-fed c line figures g h =
     let s : ℕ = c .slot in
     let d : ℕ = c .direction in

@@ -13,7 +13,7 @@ use Rattle.call_log.specs.declared.Call.{Call}
 use Rattle.call_log.specs.declared.Month.{Month}
 use Rattle.call_log.specs.Log.{Good, AllGood, none, more, callText, logText, mostLines}
 use Rattle.call_log.specs.Figures.{added}
-use Rattle.call_log.specs.Fed.{Fed, fedTo, fed, fedByte, lineStart, stopped, within, nextPart, highOf, nameByte, lastPart, inNumber, inLine, afterDigit, firstDigit, ofName, endsLine, ended, taken, callOf}
+use Rattle.call_log.specs.Fed.{Fed, fedTo, fed, fedByte, lineStart, stopped, soFar, nextPart, highOf, nameByte, finalPart, inNumber, inLine, afterDigit, firstDigit, ofName, endsLine, ended, taken, callOf}
 use Rattle.call_log.proofs.Feeds.{fed-append}
 use Rattle.month_sums.proofs.Forward.{line-fed}
 
@@ -62,7 +62,7 @@ in-line-same m x =
     pick-cases Same (leb inNumber (m .at))
     (λ _.
     pick-cases Same (mayFollow (highOf (m .part)) (m .number) x) (λ _. refl)
-    (λ _. pick-cases Same (leb lastPart (m .part)) (λ _. refl) (λ _. pick-cases Same (eqb x 32) (λ _. refl) (λ _. refl))))
+    (λ _. pick-cases Same (leb finalPart (m .part)) (λ _. refl) (λ _. pick-cases Same (eqb x 32) (λ _. refl) (λ _. refl))))
     (λ _.
     pick-cases Same (eqb (nameByte (m .part) (m .at)) 0)
     (λ _. pick-cases Same (mayBegin 0 (highOf (m .part)) x) (λ _. refl) (λ _. refl))

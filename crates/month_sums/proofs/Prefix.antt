@@ -19,20 +19,20 @@ use Rattle.writing.proofs.Digits.{digits-one, digits-more}
 use Rattle.call_log.specs.declared.Call.{Call}
 use Rattle.call_log.specs.declared.Month.{Month}
 use Rattle.call_log.specs.Log.{InForm, callText, largestNumber}
-use Rattle.call_log.specs.Fed.{within, inNumber, lastPart, nextPart, lineStart, stopped, highOf, nameByte, nameOf, inLine, afterDigit, firstDigit, ofName, endsLine, callOf}
+use Rattle.call_log.specs.Fed.{soFar, inNumber, finalPart, nextPart, lineStart, stopped, highOf, nameByte, partName, inLine, afterDigit, firstDigit, ofName, endsLine, callOf}
 use Rattle.call_log.proofs.Highs.{high-most}
 
 -- the parts before part p of a line, by the four numbers before its own
 unfoldable pub before : ℕ → ℕ → ℕ → ℕ → ℕ → List ℕ
 before zero a b c d = []
-before (suc zero) a b c d = nameOf 0 ++ digits d
-before (suc (suc zero)) a b c d = (nameOf 0 ++ digits c) ++ (nameOf 1 ++ digits d)
-before (suc (suc (suc zero))) a b c d = ((nameOf 0 ++ digits b) ++ (nameOf 1 ++ digits c)) ++ (nameOf 2 ++ digits d)
-before (suc (suc (suc (suc p)))) a b c d = (((nameOf 0 ++ digits a) ++ (nameOf 1 ++ digits b)) ++ (nameOf 2 ++ digits c)) ++ (nameOf 3 ++ digits d)
+before (suc zero) a b c d = partName 0 ++ digits d
+before (suc (suc zero)) a b c d = (partName 0 ++ digits c) ++ (partName 1 ++ digits d)
+before (suc (suc (suc zero))) a b c d = ((partName 0 ++ digits b) ++ (partName 1 ++ digits c)) ++ (partName 2 ++ digits d)
+before (suc (suc (suc (suc p)))) a b c d = (((partName 0 ++ digits a) ++ (partName 1 ++ digits b)) ++ (partName 2 ++ digits c)) ++ (partName 3 ++ digits d)
 
 -- so much of a part
 unfoldable pub partText : ℕ → ℕ → ℕ → List ℕ
-partText part place number = pick (leb inNumber place) (nameOf part ++ digits number) (take place (nameOf part))
+partText part place number = pick (leb inNumber place) (partName part ++ digits number) (take place (partName part))
 
 -- the bytes of a line that are read
 unfoldable pub prefix : Month → List ℕ
@@ -40,7 +40,7 @@ prefix m = before (m .part) (m .first) (m .second) (m .third) (m .fourth) ++ par
 
 -- the numbers of a line that are read are in range
 pub record Fine (m : Month) : Type 0 where
-  pub part : m .part ≤ lastPart
+  pub part : m .part ≤ finalPart
   pub number : m .number ≤ highOf (m .part)
   pub first : m .first ≤ largestNumber
   pub second : m .second ≤ largestNumber
@@ -49,19 +49,19 @@ pub record Fine (m : Month) : Type 0 where
 
 -- parts, by where they are read
 
-part-in : (part place number : ℕ) → 9 ≤ place → partText part place number ≡ nameOf part ++ digits number
+part-in : (part place number : ℕ) → 9 ≤ place → partText part place number ≡ partName part ++ digits number
 unfolding partText
 part-in part place number h = rw (le-leb 9 place h)
 
-part-name : (part place number : ℕ) → place < 9 → partText part place number ≡ take place (nameOf part)
+part-name : (part place number : ℕ) → place < 9 → partText part place number ≡ take place (partName part)
 unfolding partText
 part-name part place number h = rw (lt-leb 9 place h)
 
 -- no name has nine bytes, and none has a byte 0
 
 by-part : (P : List ℕ → Type 0) → P (ascii "slot=") → P (ascii " dir=") → P (ascii " bits=") → P (ascii " blocks=") → P (ascii " code=") → P []
-    → (part : ℕ) → P (nameOf part)
-unfolding nameOf
+    → (part : ℕ) → P (partName part)
+unfolding partName
 by-part P a b c d e f zero = a
 by-part P a b c d e f (suc zero) = b
 by-part P a b c d e f (suc (suc zero)) = c
@@ -70,10 +70,10 @@ by-part P a b c d e f (suc (suc (suc (suc zero)))) = e
 by-part P a b c d e f (suc (suc (suc (suc (suc part))))) =
     let n = 5 + part in
     let z : suc (suc (suc (suc (suc part)))) ≡ n = omega arith in
-    subst (λ (k : ℕ). P (nameOf k)) (sym z)
+    subst (λ (k : ℕ). P (partName k)) (sym z)
     (rw (ne-eqb n 0 (λ z. omega arith), ne-eqb n 1 (λ z. omega arith), ne-eqb n 2 (λ z. omega arith), ne-eqb n 3 (λ z. omega arith), ne-eqb n 4 (λ z. omega arith)) f)
 
-short : (part : ℕ) → length (nameOf part) ≤ 8
+short : (part : ℕ) → length (partName part) ≤ 8
 short part = by-part (λ l. length l ≤ 8) (omega arith) (omega arith) (omega arith) (omega arith) (omega arith) (omega arith) part
 
 abbrev positive : List ℕ → Bool
@@ -86,16 +86,16 @@ some (x ∷ l) zero p h = ltb-true 0 x (and-left (ltb 0 x) (positive l) p)
 some (x ∷ l) (suc i) p h = some l i (and-right (ltb 0 x) (positive l) p) (omega arith)
 
 -- a name is over where there is no byte of it
-over : (part place : ℕ) → nameByte part place ≡ 0 → length (nameOf part) ≤ place
+over : (part place : ℕ) → nameByte part place ≡ 0 → length (partName part) ≤ place
 unfolding nameByte
 over part place e =
-    ⊎-elim (λ h. let z = some (nameOf part) place (by-part (λ l. positive l ≡ true) refl refl refl refl refl refl part) h in absurd (omega arith)) (λ h. h)
-    (lt-or-le place (length (nameOf part)))
+    ⊎-elim (λ h. let z = some (partName part) place (by-part (λ l. positive l ≡ true) refl refl refl refl refl refl part) h in absurd (omega arith)) (λ h. h)
+    (lt-or-le place (length (partName part)))
 
 -- a byte of a name lies within it
-in-name : (part place : ℕ) → (nameByte part place ≡ 0 → ⊥) → place < length (nameOf part)
+in-name : (part place : ℕ) → (nameByte part place ≡ 0 → ⊥) → place < length (partName part)
 unfolding nameByte
-in-name part place n = ⊎-elim (λ h. h) (λ h. absurd (n (List·getD-eq-default (nameOf part) 0 h))) (lt-or-le place (length (nameOf part)))
+in-name part place n = ⊎-elim (λ h. h) (λ h. absurd (n (List·getD-eq-default (partName part) 0 h))) (lt-or-le place (length (partName part)))
 
 -- what a byte makes of a line that goes on
 
@@ -112,7 +112,7 @@ After m x m′ = Joined m x m′ ⊎ (m′ ≡ stopped (m .line))
 
 -- the next part begins with a space
 
-before-next : (p a b c d n : ℕ) → p < 4 → before (p + 1) b c d n ≡ before p a b c d ++ (nameOf p ++ digits n)
+before-next : (p a b c d n : ℕ) → p < 4 → before (p + 1) b c d n ≡ before p a b c d ++ (partName p ++ digits n)
 unfolding before
 before-next zero a b c d n h = refl
 before-next (suc zero) a b c d n h = refl
@@ -121,7 +121,7 @@ before-next (suc (suc (suc zero))) a b c d n h = refl
 before-next (suc (suc (suc (suc p)))) a b c d n h = absurd (omega arith)
 
 space-next : (p : ℕ) → p < 4 → partText (p + 1) 1 0 ≡ 32 ∷ []
-unfolding partText nameOf
+unfolding partText partName
 space-next zero h = refl
 space-next (suc zero) h = refl
 space-next (suc (suc zero)) h = refl
@@ -134,7 +134,7 @@ module _ (m : Month) (x : ℕ) (fine : Fine m) where
 
   -- the part's text gains x, and all else stays
   gains : (place number : ℕ) → number ≤ highOf (m .part) → partText (m .part) place number ≡ partText (m .part) (m .at) (m .number) ++ (x ∷ [])
-      → Joined m x (within m place number)
+      → Joined m x (soFar m place number)
   unfolding prefix
   gains place number h e =
       record {
@@ -145,7 +145,7 @@ module _ (m : Month) (x : ℕ) (fine : Fine m) where
         line = refl;
       }
 
-  name-joined : (eqb x (nameByte (m .part) (m .at)) ≡ true) → (nameByte (m .part) (m .at) ≡ 0 → ⊥) → m .at < 9 → Joined m x (within m (m .at + 1) 0)
+  name-joined : (eqb x (nameByte (m .part) (m .at)) ≡ true) → (nameByte (m .part) (m .at) ≡ 0 → ⊥) → m .at < 9 → Joined m x (soFar m (m .at + 1) 0)
   unfolding nameByte
   name-joined e n h =
       let y : x ≡ nameByte (m .part) (m .at) = eqb-true x _ e in
@@ -153,27 +153,27 @@ module _ (m : Month) (x : ℕ) (fine : Fine m) where
       let s = short (m .part) in
       gains (m .at + 1) 0 (omega arith)
       (part-name (m .part) (m .at + 1) 0 (omega arith)
-      ∙ (ap (λ (i : ℕ). take i (nameOf (m .part))) (add-one (m .at))
-      ∙ (take-suc (nameOf (m .part)) (m .at) 0 l
+      ∙ (ap (λ (i : ℕ). take i (partName (m .part))) (add-one (m .at))
+      ∙ (take-suc (partName (m .part)) (m .at) 0 l
       ∙ (λ i. sym (part-name (m .part) (m .at) (m .number) h) i ++ (sym y i ∷ [])))))
 
-  digit-joined : mayBegin 0 (highOf (m .part)) x ≡ true → nameByte (m .part) (m .at) ≡ 0 → m .at < 9 → Joined m x (within m inNumber (x - 48))
+  digit-joined : mayBegin 0 (highOf (m .part)) x ≡ true → nameByte (m .part) (m .at) ≡ 0 → m .at < 9 → Joined m x (soFar m inNumber (x - 48))
   digit-joined e n h =
       let f = begin-is 0 (highOf (m .part)) x e in
       let z : 48 + (x - 48) ≡ x = omega arith in
       gains inNumber (x - 48) (f .3)
       (part-in (m .part) inNumber (x - 48) (omega arith)
-      ∙ ((λ i. sym (take-all (m .at) (nameOf (m .part)) (over (m .part) (m .at) n)) i ++ digits-one (x - 48) (omega arith) i)
+      ∙ ((λ i. sym (take-all (m .at) (partName (m .part)) (over (m .part) (m .at) n)) i ++ digits-one (x - 48) (omega arith) i)
       ∙ (λ i. sym (part-name (m .part) (m .at) (m .number) h) i ++ (z i ∷ []))))
 
-  follow-joined : mayFollow (highOf (m .part)) (m .number) x ≡ true → 9 ≤ m .at → Joined m x (within m inNumber (m .number * 10 + (x - 48)))
+  follow-joined : mayFollow (highOf (m .part)) (m .number) x ≡ true → 9 ≤ m .at → Joined m x (soFar m inNumber (m .number * 10 + (x - 48)))
   follow-joined e h =
       let f = follow-is (highOf (m .part)) (m .number) x e in
       let z : 48 + (x - 48) ≡ x = omega arith in
       gains inNumber (m .number * 10 + (x - 48)) (f .3)
       (part-in (m .part) inNumber (m .number * 10 + (x - 48)) (omega arith)
-      ∙ (ap (λ (t : List ℕ). nameOf (m .part) ++ t) (digits-more (m .number) (x - 48) (f .2) (omega arith))
-      ∙ (sym (append-assoc (nameOf (m .part)) (digits (m .number)) ((48 + (x - 48)) ∷ []))
+      ∙ (ap (λ (t : List ℕ). partName (m .part) ++ t) (digits-more (m .number) (x - 48) (f .2) (omega arith))
+      ∙ (sym (append-assoc (partName (m .part)) (digits (m .number)) ((48 + (x - 48)) ∷ []))
       ∙ (λ i. sym (part-in (m .part) (m .at) (m .number) h) i ++ (z i ∷ [])))))
 
   next-joined : m .part < 4 → x ≡ 32 → 9 ≤ m .at → Joined m x (nextPart m (m .part + 1))
@@ -204,7 +204,7 @@ module _ (m : Month) (x : ℕ) (fine : Fine m) where
       (λ h.
       pick-cases (After m x) (mayFollow (highOf (m .part)) (m .number) x) (λ e. inl (follow-joined e (leb-true 9 (m .at) h)))
       (λ _.
-      pick-cases (After m x) (leb lastPart (m .part)) (λ _. inr refl)
+      pick-cases (After m x) (leb finalPart (m .part)) (λ _. inr refl)
       (λ l.
       pick-cases (After m x) (eqb x 32) (λ e. inl (next-joined (leb-false 4 (m .part) l) (eqb-true x 32 e) (leb-true 9 (m .at) h)))
       (λ _. inr refl))))
@@ -223,21 +223,21 @@ regroup : (p q r s t u : List ℕ) → ((((p ++ q) ++ r) ++ s) ++ t) ++ u ≡ p 
 regroup p q r s t u = simp append-assoc
 
 joined : (a b c d n : ℕ)
-    → (before 4 a b c d ++ (nameOf 4 ++ digits n)) ++ (lf ∷ []) ≡ callText (record { slot = a; direction = b; bits = c; blocks = d; code = n })
-unfolding before nameOf callText
+    → (before 4 a b c d ++ (partName 4 ++ digits n)) ++ (lf ∷ []) ≡ callText (record { slot = a; direction = b; bits = c; blocks = d; code = n })
+unfolding before partName callText
 joined a b c d n =
-    let p = nameOf 0 ++ digits a in
-    let q = nameOf 1 ++ digits b in
-    let r = nameOf 2 ++ digits c in
-    let s = nameOf 3 ++ digits d in
-    regroup p q r s (nameOf 4 ++ digits n) (lf ∷ [])
-    ∙ ap (λ (t : List ℕ). p ++ (q ++ (r ++ (s ++ t)))) (append-assoc (nameOf 4) (digits n) (lf ∷ []))
+    let p = partName 0 ++ digits a in
+    let q = partName 1 ++ digits b in
+    let r = partName 2 ++ digits c in
+    let s = partName 3 ++ digits d in
+    regroup p q r s (partName 4 ++ digits n) (lf ∷ [])
+    ∙ ap (λ (t : List ℕ). p ++ (q ++ (r ++ (s ++ t)))) (append-assoc (partName 4) (digits n) (lf ∷ []))
 
 pub ended-text : (m : Month) → m .part ≡ 4 → 9 ≤ m .at → prefix m ++ (lf ∷ []) ≡ callText (callOf m)
 unfolding prefix
 ended-text m e h =
     ap (λ (t : List ℕ). (before (m .part) (m .first) (m .second) (m .third) (m .fourth) ++ t) ++ (lf ∷ [])) (part-in (m .part) (m .at) (m .number) h)
-    ∙ (ap (λ (p : ℕ). (before p (m .first) (m .second) (m .third) (m .fourth) ++ (nameOf p ++ digits (m .number))) ++ (lf ∷ [])) e
+    ∙ (ap (λ (p : ℕ). (before p (m .first) (m .second) (m .third) (m .fourth) ++ (partName p ++ digits (m .number))) ++ (lf ∷ [])) e
     ∙ joined (m .first) (m .second) (m .third) (m .fourth) (m .number))
 
 pub start-text : (line : ℕ) → prefix (lineStart line) ≡ []

@@ -16,7 +16,7 @@ use Rattle.call_log.specs.declared.Call.{Call}
 use Rattle.call_log.specs.Log.{Good, AllGood, none, more}
 use Rattle.call_log.specs.Figures.{rowOf, totalRow}
 use Rattle.call_log.proofs.Sound.{accepted-ranges, refused-code}
-use Rattle.month_sums.specs.Sums.{sumOver, inRow, sumsOver, sumTo}
+use Rattle.month_sums.specs.Sums.{sumOfLines, inRow, sumsOver, sumTo}
 use Rattle.month_sums.proofs.Figures.{hit, hit-same, hit-other, sum-same, sum-ones, row-low, in-accepted, in-refused}
 
 -- sums to n
@@ -59,13 +59,13 @@ to-part f r (suc n) h =
     ⊎-elim (λ e. omega (arith, ap f e)) (λ d. ⊎-elim (λ l. omega (arith, to-part f r n l)) (λ l. absurd (d (omega arith))) (lt-or-le r n)) (eq-or-ne n r)
 
 -- sums over lines, and to n, in either order
-swapped : (g : ℕ → Call → ℕ) (n : ℕ) (cs : List Call) → sumTo (λ k. sumOver (g k) cs) n ≡ sumOver (λ c. sumTo (λ k. g k c) n) cs
-unfolding sumOver
+swapped : (g : ℕ → Call → ℕ) (n : ℕ) (cs : List Call) → sumTo (λ k. sumOfLines (g k) cs) n ≡ sumOfLines (λ c. sumTo (λ k. g k c) n) cs
+unfolding sumOfLines
 swapped g n [] = to-none n
-swapped g n (c ∷ cs) = to-both (λ k. g k c) (λ k. sumOver (g k) cs) n ∙ ap (λ (x : ℕ). sumTo (λ k. g k c) n + x) (swapped g n cs)
+swapped g n (c ∷ cs) = to-both (λ k. g k c) (λ k. sumOfLines (g k) cs) n ∙ ap (λ (x : ℕ). sumTo (λ k. g k c) n + x) (swapped g n cs)
 
-over-both : (f g : Call → ℕ) (cs : List Call) → sumOver (λ c. f c + g c) cs ≡ sumOver f cs + sumOver g cs
-unfolding sumOver
+over-both : (f g : Call → ℕ) (cs : List Call) → sumOfLines (λ c. f c + g c) cs ≡ sumOfLines f cs + sumOfLines g cs
+unfolding sumOfLines
 over-both f g [] = refl
 over-both f g (c ∷ cs) = omega (arith, over-both f g cs)
 
@@ -114,7 +114,7 @@ one-count c g = ⊎-elim yes no (eq-or-ne (c .code) 0)
         omega (arith, a, b, to-hit (c .code - 1) 1 27 (omega arith))
 
 module _ (cs : List Call) (good : AllGood cs) where
-  adds-up : (v : Call → ℕ) → sumTo (λ row. sumOver (λ c. pick (inRow row c) (v c) 0) cs) 64 ≡ sumOver (λ c. pick (inRow 64 c) (v c) 0) cs
+  adds-up : (v : Call → ℕ) → sumTo (λ row. sumOfLines (λ c. pick (inRow row c) (v c) 0) cs) 64 ≡ sumOfLines (λ c. pick (inRow 64 c) (v c) 0) cs
   adds-up v =
       swapped (λ row c. pick (inRow row c) (v c) 0) 64 cs
       ∙ sum-same (λ c. sumTo (λ row. pick (inRow row c) (v c) 0) 64) (λ c. pick (inRow 64 c) (v c) 0) cs good (λ c g. one-row c g (v c))

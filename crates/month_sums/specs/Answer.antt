@@ -5,7 +5,7 @@ use Prim.Native.Nat.{ℕ, _+_, _≤_, _<_}
 use lib.ListN.{length}
 use Rattle.call_log.specs.declared.Call.{Call}
 use Rattle.call_log.specs.Log.{Good, AllGood, callText, logText, mostLines}
-use Rattle.month_sheet.specs.Sheet.{sheetText, refusedText}
+use Rattle.month_sheet.specs.Sheet.{sheetText, wrongLineText}
 use Rattle.month_sums.specs.Sums.{sumsOver}
 
 -- a text does not begin with a good line
@@ -29,4 +29,4 @@ pub record BadLog (log printed : List ℕ) : Type 0 where
   pub few : length calls ≤ mostLines
   pub more : rest ≡ [] → ⊥
   pub first : length calls < mostLines → NoGoodLine rest
-  pub line : printed ≡ refusedText (length calls + 1)
+  pub line : printed ≡ wrongLineText (length calls + 1)

@@ -10,9 +10,9 @@ use Rattle.call_log.specs.Log.{isAccepted}
 use Rattle.call_log.specs.Figures.{totalRow}
 use Rattle.month_sheet.specs.Sheet.{Sums}
 
-unfoldable pub sumOver : (Call → ℕ) → List Call → ℕ
-sumOver f [] = 0
-sumOver f (c ∷ cs) = f c + sumOver f cs
+unfoldable pub sumOfLines : (Call → ℕ) → List Call → ℕ
+sumOfLines f [] = 0
+sumOfLines f (c ∷ cs) = f c + sumOfLines f cs
 
 -- an accepted call of a slot and direction
 abbrev pub isOf : ℕ → ℕ → Call → Bool
@@ -25,10 +25,10 @@ inRow row c = pick (eqb row totalRow) (isAccepted c) (isOf (row / 2 + 1) (row % 
 abbrev pub sumsOver : List Call → Sums
 sumsOver cs =
     record {
-      calls = λ row. sumOver (λ c. pick (inRow row c) 1 0) cs;
-      bits = λ row. sumOver (λ c. pick (inRow row c) (c .bits) 0) cs;
-      blocks = λ row. sumOver (λ c. pick (inRow row c) (c .blocks) 0) cs;
-      count = λ code. sumOver (λ c. pick (eqb (c .code) code) 1 0) cs;
+      calls = λ row. sumOfLines (λ c. pick (inRow row c) 1 0) cs;
+      bits = λ row. sumOfLines (λ c. pick (inRow row c) (c .bits) 0) cs;
+      blocks = λ row. sumOfLines (λ c. pick (inRow row c) (c .blocks) 0) cs;
+      count = λ code. sumOfLines (λ c. pick (eqb (c .code) code) 1 0) cs;
       lines = length cs;
     }
 

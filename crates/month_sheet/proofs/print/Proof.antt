@@ -3,7 +3,7 @@ use mathlib.Core.Path.{refl, sym, ap, _∙_}
 use borrow.Author.Tests.{lt-ltb, eq-eqb, ne-eqb}
 use Rattle.writing.proofs.Puts.{put-as}
 use Rattle.call_log.specs.Fed.{fedTo, wrongLine}
-use Rattle.month_sheet.specs.Sheet.{sheetText, sumsIn, refusedText, printedText, printedLength, printedBuffer}
+use Rattle.month_sheet.specs.Sheet.{sheetText, sumsIn, wrongLineText, printedText, printedLength, printedBuffer}
 use Rattle.month_sheet.proofs.Printed.{printed, printed-sheet, printed-refused}
 use borrow.Author.Needs.{needs}
 use Rattle.month_sheet.proofs.print.Statement.{statement}
@@ -24,7 +24,7 @@ returns-3 c =
     let f = fedTo (c .before .before .before .before .before .before .before .before .before .args .m) (c .before .before .before .before .before .before .before .before .before .args .figures .now) in
     let put = c .before .before .put-refused .ensures in
     printed f _ (c .before .before .before .before .before .before .if1 .left) (put .0)
-    (put-as (ap refusedText (c .before .before .before .before .before .wrong-line .ensures) ∙ sym (printed-refused f (λ e. c .before .before .before .before .if2 .left (c .before .before .before .before .before .wrong-line .ensures ∙ e)))) (put .1))
+    (put-as (ap wrongLineText (c .before .before .before .before .before .wrong-line .ensures) ∙ sym (printed-refused f (λ e. c .before .before .before .before .if2 .left (c .before .before .before .before .before .wrong-line .ensures ∙ e)))) (put .1))
 
 pub print-spec : {M : Type 1} → statement M
 print-spec =

@@ -7,7 +7,7 @@ use borrow.Author.Tests.{eq-eqb, ne-eqb, le-leb, lt-leb}
 use Rattle.forms.specs.Decimals.{mayFollow}
 use Rattle.forms.proofs.Decimals.{follow-is}
 use Rattle.call_log.proofs.Highs.{high-most}
-use Rattle.call_log.specs.Fed.{within, inNumber, highOf, afterDigit}
+use Rattle.call_log.specs.Fed.{soFar, inNumber, highOf, afterDigit}
 use borrow.Author.Needs.{needs}
 use Rattle.call_log.proofs.part.after_digit.Statement.{statement}
 use Rattle.call_log.proofs.part.after_digit.Tie as tie
@@ -22,18 +22,18 @@ not-may c =
     sym (ap (λ (h : ℕ). mayFollow h (c .before .before .before .args .m .number) (c .before .before .before .args .b)) (c .before .before .high-of .ensures))
     ∙ (sym (c .before .may-follow .ensures) ∙ c .if1 .left)
 
-mul-within : tie.Need-mul-within
-mul-within c = record { fits = omega (arith, follow-is _ _ _ (may (c .before)) .3, high-most (c .before .before .before .before .args .m .part)) }
+mul-so-far : tie.Need-mul-so-far
+mul-so-far c = record { fits = omega (arith, follow-is _ _ _ (may (c .before)) .3, high-most (c .before .before .before .before .args .m .part)) }
 
 digit-requires : tie.Need-digit-requires
 digit-requires c κs = follow-is _ _ _ (may (c .before)) .0
 
-add-within : tie.Need-add-within
-add-within c = record { fits = omega (arith, follow-is _ _ _ (may (c .before .before)) .3, high-most (c .before .before .before .before .before .args .m .part), c .digit .ensures) }
+add-so-far : tie.Need-add-so-far
+add-so-far c = record { fits = omega (arith, follow-is _ _ _ (may (c .before .before)) .3, high-most (c .before .before .before .before .before .args .m .part), c .digit .ensures) }
 
 returns : tie.Need-returns
 unfolding afterDigit
-returns c = rw (may (c .before .before .before)) (c .within .ensures ∙ ap (λ (d : ℕ). within (c .before .before .before .before .before .before .args .m) inNumber (c .before .before .before .before .before .before .args .m .number * 10 + d)) (c .before .digit .ensures))
+returns c = rw (may (c .before .before .before)) (c .so-far .ensures ∙ ap (λ (d : ℕ). soFar (c .before .before .before .before .before .before .args .m) inNumber (c .before .before .before .before .before .before .args .m .number * 10 + d)) (c .before .digit .ensures))
 
 returns-2 : tie.Need-returns-2
 unfolding afterDigit
@@ -53,9 +53,9 @@ after-digit-spec =
     (tie.spec
     (λ c κs. search needs)
     (λ c κs. search needs)
-    mul-within
+    mul-so-far
     digit-requires
-    add-within
+    add-so-far
     (λ c κs. search needs)
     returns
     (λ c κs. search needs)

@@ -5,7 +5,7 @@ use Prim.Native.Nat.{ℕ}
 use native.Mathlib.Omega.{arith}
 use Rattle.forms.specs.Decimals.{mayBegin}
 use Rattle.forms.proofs.Decimals.{begin-is}
-use Rattle.call_log.specs.Fed.{within, inNumber, highOf, firstDigit}
+use Rattle.call_log.specs.Fed.{soFar, inNumber, highOf, firstDigit}
 use borrow.Author.Needs.{needs}
 use Rattle.call_log.proofs.part.first_digit.Statement.{statement}
 use Rattle.call_log.proofs.part.first_digit.Tie as tie
@@ -20,7 +20,7 @@ digit-requires c κs = begin-is 0 _ _ (may c) .0
 
 returns : tie.Need-returns
 unfolding firstDigit
-returns c = rw (may (c .before .before)) (c .within .ensures ∙ ap (within (c .before .before .before .before .before .args .m) inNumber) (c .before .digit .ensures))
+returns c = rw (may (c .before .before)) (c .so-far .ensures ∙ ap (soFar (c .before .before .before .before .before .args .m) inNumber) (c .before .digit .ensures))
 
 returns-2 : tie.Need-returns-2
 unfolding firstDigit

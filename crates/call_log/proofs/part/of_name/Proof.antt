@@ -5,15 +5,15 @@ use borrow.Author.Needs.{needs}
 use Rattle.call_log.proofs.part.of_name.Statement.{statement}
 use Rattle.call_log.proofs.part.of_name.Tie as tie
 
-add-within : tie.Need-add-within
-add-within c = search needs
+add-so-far : tie.Need-add-so-far
+add-so-far c = search needs
 
-within-requires : tie.Need-within-requires
-within-requires c κs = search needs
+so-far-requires : tie.Need-so-far-requires
+so-far-requires c κs = search needs
 
 returns : tie.Need-returns
 unfolding ofName
-returns c = rw (eq-eqb _ _ (c .before .before .if1 .taken)) (c .within .ensures)
+returns c = rw (eq-eqb _ _ (c .before .before .if1 .taken)) (c .so-far .ensures)
 
 stopped-requires : tie.Need-stopped-requires
 stopped-requires c κs = search needs
@@ -23,4 +23,4 @@ unfolding ofName
 returns-2 c = rw (ne-eqb _ _ (c .before .if1 .left)) (c .stopped .ensures)
 
 pub of-name-spec : {M : Type 1} → statement M
-of-name-spec = tie.close (tie.spec add-within within-requires returns stopped-requires returns-2)
+of-name-spec = tie.close (tie.spec add-so-far so-far-requires returns stopped-requires returns-2)
