@@ -1,25 +1,33 @@
-// The slot calls on a table that the caller lends: 32 slot records behind a pointer.
+// The slot calls on a table that the caller lends: 32 slot records behind a pointer. Each is judged by what its slots show, and reads a key only where it is
+// not refused and needs one: so a refused call has no key to leave behind.
 ghost use mathlib.Core.Path.{_≡_};
+ghost use Rattle.slots.specs.Slots.{keyless};
 ghost use Rattle.slots.specs.Calls.{shownOf};
 ghost use Rattle.slots.specs.Seen.{loadPut};
 ghost use Rattle.card.specs.Faces.{asking, pduAs};
 ghost use Rattle.ciphering.specs.Span.{cipheredAs};
 ghost use Rattle.card.specs.Table.{changedAs, loadedIn, movedIn, clearedIn, shownAs, shownIn, trafficAnswerIn, wholeAnswerIn};
-ghost use Rattle.traffic.specs.Traffic.{trafficRefusalOf, traffickedOf, trafficBlocksOf};
-ghost use Rattle.whole.specs.Whole.{wholeRefusalOf, wholedOf, wholeBlocksOf};
+ghost use Rattle.traffic.specs.Traffic.{TrafficMay, trafficAfter};
+ghost use Rattle.whole.specs.Whole.{judgedPlan, WholeMay, wholeAfter};
 use fields::Asked;
+use fields::Fields;
+use plan::Plan;
+use slot_list::fields_in;
 use slot_list::is_no_table;
 use slot_list::put_slot;
 use slot_list::slot_in;
 use slots::Put;
 use slots::Slot;
+use slots::key_slot;
 use traffic::traffic_of;
+use traffic::traffic_refusal;
 use whole::Pdu;
+use whole::judged_plan;
 use whole::whole_of;
 
 fn load_from(
     bad: bool,
-    slot: Slot,
+    f: Fields,
     number: u64,
     version: u16,
     algorithm: u64,
@@ -30,7 +38,7 @@ fn load_from(
     mnc: u64,
     key: &[u8; 24],
 ) -> Put
-    ensures { λ r. ⌜ r ≡ loadPut bad slot number (asking version algorithm usage side place mcc mnc) (now (key .entry)) ⌝ }
+    ensures { λ r. ⌜ r ≡ loadPut bad (keyless f) number (asking version algorithm usage side place mcc mnc) (now (key .entry)) ⌝ }
 {
     let asked = Asked {
         version,
@@ -42,7 +50,7 @@ fn load_from(
         mnc,
     };
     let k = *key;
-    slots::load_of(bad, slot, number, asked, k)
+    slots::load_of(bad, f, number, asked, k)
 }
 
 // Fills an empty slot.
@@ -64,7 +72,7 @@ pub extern "C" fn card_load(
 {
     let put = load_from(
         is_no_table(t),
-        slot_in(t, number),
+        fields_in(t, number),
         number,
         version,
         algorithm,
@@ -83,14 +91,15 @@ pub extern "C" fn card_load(
 pub extern "C" fn card_move(t: &mut [Slot], from: u64, to: u64, asked: u64) -> u8
     ensures { λ r. ⌜ changedAs r (now (t .exit)) ≡ movedIn (now (t .entry)) from to asked ⌝ }
 {
-    let put = slots::move_of(
+    let refusal = slots::move_refusal(
         is_no_table(t),
-        slot_in(t, from),
-        slot_in(t, to),
+        fields_in(t, from),
+        fields_in(t, to),
         from,
         to,
         asked,
     );
+    let put = slots::move_of(refusal, slot_in(t, key_slot(refusal, from)), asked);
     put_slot(t, to, put);
     put_slot(t, from, slots::emptied(put))
 }
@@ -100,15 +109,15 @@ pub extern "C" fn card_move(t: &mut [Slot], from: u64, to: u64, asked: u64) -> u
 pub extern "C" fn card_clear(t: &mut [Slot], number: u64) -> u8
     ensures { λ r. ⌜ changedAs r (now (t .exit)) ≡ clearedIn (now (t .entry)) number ⌝ }
 {
-    let put = slots::clear_of(is_no_table(t), slot_in(t, number), number);
+    let put = slots::clear_of(is_no_table(t), fields_in(t, number), number);
     put_slot(t, number, put)
 }
 
 fn show_from<'a>(
     bad: bool,
-    slot: Slot,
+    f: Fields,
     number: u64,
-    there: &'a mut u64,
+    found: &'a mut u64,
     version: &'a mut u16,
     algorithm: &'a mut u8,
     usage: &'a mut u8,
@@ -117,11 +126,11 @@ fn show_from<'a>(
     mcc: &'a mut u16,
     mnc: &'a mut u16,
 ) -> u8
-    ensures { λ r. ⌜ shownAs r (now (there .exit)) (now (version .exit)) (now (algorithm .exit)) (now (usage .exit)) (now (side .exit)) (now (place .exit)) (now (mcc .exit)) (now (mnc .exit)) ≡ shownOf bad slot number ⌝ }
+    ensures { λ r. ⌜ shownAs r (now (found .exit)) (now (version .exit)) (now (algorithm .exit)) (now (usage .exit)) (now (side .exit)) (now (place .exit)) (now (mcc .exit)) (now (mnc .exit)) ≡ shownOf bad (keyless f) number ⌝ }
 {
-    let s = slots::read_of(bad, slot, number);
+    let s = slots::read_of(bad, f, number);
     let f = s.fields;
-    *there = s.number;
+    *found = s.number;
     *version = f.version;
     *algorithm = f.algorithm;
     *usage = f.usage;
@@ -137,7 +146,7 @@ fn show_from<'a>(
 pub extern "C" fn card_read<'a>(
     t: &[Slot],
     number: u64,
-    there: &'a mut u64,
+    found: &'a mut u64,
     version: &'a mut u16,
     algorithm: &'a mut u8,
     usage: &'a mut u8,
@@ -146,13 +155,13 @@ pub extern "C" fn card_read<'a>(
     mcc: &'a mut u16,
     mnc: &'a mut u16,
 ) -> u8
-    ensures { λ r. ⌜ shownAs r (now (there .exit)) (now (version .exit)) (now (algorithm .exit)) (now (usage .exit)) (now (side .exit)) (now (place .exit)) (now (mcc .exit)) (now (mnc .exit)) ≡ shownIn (now (t .entry)) number ⌝ }
+    ensures { λ r. ⌜ shownAs r (now (found .exit)) (now (version .exit)) (now (algorithm .exit)) (now (usage .exit)) (now (side .exit)) (now (place .exit)) (now (mcc .exit)) (now (mnc .exit)) ≡ shownIn (now (t .entry)) number ⌝ }
 {
     show_from(
         is_no_table(t),
-        slot_in(t, number),
+        fields_in(t, number),
         number,
-        there,
+        found,
         version,
         algorithm,
         usage,
@@ -164,10 +173,8 @@ pub extern "C" fn card_read<'a>(
 }
 
 fn traffic_from<'a>(
-    bad: bool,
+    refusal: u8,
     slot: Slot,
-    direction: u64,
-    number: u64,
     iv: &'a [u8],
     buf: &'a mut [u8],
     start: usize,
@@ -175,11 +182,11 @@ fn traffic_from<'a>(
     skip: usize,
     blocks: &'a mut usize,
 ) -> u8
-    ensures { λ r. ⌜ (r ≡ trafficRefusalOf bad slot direction number (now (iv .entry)) (now (buf .entry)) start n skip)
-        × (now (buf .exit) ≡ traffickedOf bad slot direction number (now (iv .entry)) (now (buf .entry)) start n skip)
-        × (now (blocks .exit) ≡ trafficBlocksOf bad slot direction number (now (iv .entry)) (now (buf .entry)) start n skip) ⌝ }
+    requires { ⌜ TrafficMay refusal (now iv) (now buf) start n skip ⌝ }
+    ensures { λ r. ⌜ cipheredAs r (now (buf .exit)) (now (blocks .exit))
+        ≡ trafficAfter refusal slot (now (iv .entry)) (now (buf .entry)) start n skip ⌝ }
 {
-    let report = traffic_of(bad, slot, direction, number, iv, buf, start, n, skip);
+    let report = traffic_of(refusal, slot, iv, buf, start, n, skip);
     *blocks = report.blocks;
     report.refusal
 }
@@ -200,9 +207,9 @@ pub extern "C" fn card_traffic<'a>(
     ensures { λ r. ⌜ cipheredAs r (now (buf .exit)) (now (blocks .exit))
         ≡ trafficAnswerIn (now (t .entry)) direction number (now (iv .entry)) (now (buf .entry)) start n skip ⌝ }
 {
-    traffic_from(
+    let refusal = traffic_refusal(
         is_no_table(t),
-        slot_in(t, number),
+        fields_in(t, number),
         direction,
         number,
         iv,
@@ -210,27 +217,25 @@ pub extern "C" fn card_traffic<'a>(
         start,
         n,
         skip,
-        blocks,
-    )
+    );
+    let slot = slot_in(t, key_slot(refusal, number));
+    traffic_from(refusal, slot, iv, buf, start, n, skip, blocks)
 }
 
-fn pdu_from<'a>(
+fn plan_from(
     bad: bool,
-    slot: Slot,
+    f: Fields,
     direction: u64,
     number: u64,
-    iv: &'a [u8],
-    buf: &'a mut [u8],
+    iv: &[u8],
+    buf: &[u8],
     kind: u64,
     state: u64,
     length: usize,
     address: usize,
     sdu: usize,
-    blocks: &'a mut usize,
-) -> u8
-    ensures { λ r. ⌜ (r ≡ wholeRefusalOf bad slot direction number (now (iv .entry)) (now (buf .entry)) (pduAs kind state length address sdu))
-        × (now (buf .exit) ≡ wholedOf bad slot direction number (now (iv .entry)) (now (buf .entry)) (pduAs kind state length address sdu))
-        × (now (blocks .exit) ≡ wholeBlocksOf bad slot direction number (now (iv .entry)) (now (buf .entry)) (pduAs kind state length address sdu)) ⌝ }
+) -> Plan
+    ensures { λ r. ⌜ r ≡ judgedPlan bad (keyless f) direction number (now (iv .entry)) (now (buf .entry)) (pduAs kind state length address sdu) ⌝ }
 {
     let pdu = Pdu {
         kind,
@@ -239,7 +244,14 @@ fn pdu_from<'a>(
         address,
         sdu,
     };
-    let report = whole_of(bad, slot, direction, number, iv, buf, pdu);
+    judged_plan(bad, f, direction, number, iv, buf, pdu)
+}
+
+fn pdu_from<'a>(p: Plan, slot: Slot, iv: &'a [u8], buf: &'a mut [u8], blocks: &'a mut usize) -> u8
+    requires { ⌜ WholeMay p (now iv) (now buf) ⌝ }
+    ensures { λ r. ⌜ cipheredAs r (now (buf .exit)) (now (blocks .exit)) ≡ wholeAfter p slot (now (iv .entry)) (now (buf .entry)) ⌝ }
+{
+    let report = whole_of(p, slot, iv, buf);
     *blocks = report.blocks;
     report.refusal
 }
@@ -263,9 +275,9 @@ pub extern "C" fn card_pdu<'a>(
     ensures { λ r. ⌜ cipheredAs r (now (buf .exit)) (now (blocks .exit))
         ≡ wholeAnswerIn (now (t .entry)) direction number (now (iv .entry)) (now (buf .entry)) (pduAs kind state length address sdu) ⌝ }
 {
-    pdu_from(
+    let p = plan_from(
         is_no_table(t),
-        slot_in(t, number),
+        fields_in(t, number),
         direction,
         number,
         iv,
@@ -275,6 +287,7 @@ pub extern "C" fn card_pdu<'a>(
         length,
         address,
         sdu,
-        blocks,
-    )
+    );
+    let slot = slot_in(t, whole::key_slot(p, number));
+    pdu_from(p, slot, iv, buf, blocks)
 }

@@ -73,7 +73,7 @@ fn with_pieces(first: Piece, second: Piece) -> Plan
     }
 }
 
-fn refused(number: u8) -> Plan
+pub fn refused(number: u8) -> Plan
     ensures { λ r. ⌜ r ≡ refused number ⌝ }
 {
     Plan {

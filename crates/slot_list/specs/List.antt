@@ -7,6 +7,7 @@ use lib.Dec.{eqb, ltb}
 use lib.ListN.{length, getD, set}
 use Rattle.laws.specs.Choice.{pick}
 use Rattle.refusals.specs.Numbers.{done}
+use Rattle.fields.specs.declared.Fields.{Fields}
 use Rattle.fields.specs.Fields.{isSlotNumber}
 use Rattle.slots.specs.declared.Slot.{Slot}
 use Rattle.slots.specs.declared.Put.{Put}
@@ -19,7 +20,7 @@ isTable t = eqb (length t) 32
 abbrev pub isNoTable : List Slot → Bool
 isNoTable t = not (isTable t) || hasBad t
 
--- It reads the slot of a number, an empty one where there is none, and stores one slot.
+-- It reads what the slot of a number shows, or the slot with its key, and stores one slot. Where there is none, nothing shows and the slot is empty.
 
 -- past the end unless there are 32 records and the number is a slot's
 abbrev pub placeOf : ℕ → ℕ → ℕ
@@ -27,6 +28,9 @@ placeOf count number = pick (eqb count 32 && isSlotNumber number) (number - 1) c
 
 abbrev pub slotIn : List Slot → ℕ → Slot
 slotIn t number = pick (ltb (placeOf (length t) number) (length t)) (getD t (placeOf (length t) number) nil) empty
+
+abbrev pub fieldsIn : List Slot → ℕ → Fields
+fieldsIn t number = slotIn t number .fields
 
 -- past the end after a refusal
 abbrev pub placeTo : ℕ → ℕ → Put → ℕ

@@ -1,8 +1,10 @@
-// The calls' view of a lent list of slot records: the slots are tested where they lie, and only the one that is asked for is copied.
+// The calls' view of a lent list of slot records: the slots are tested where they lie, what a slot shows is read for itself, and only the slot that is
+// asked for is copied with its key.
 ghost use mathlib.Core.Path.{_≡_};
 ghost use mathlib.Core.Bool.{_||_, not};
 ghost use Rattle.slots.specs.Slots.{isFilled, isBad};
-ghost use Rattle.slot_list.specs.List.{isNoTable, placeOf, slotIn, placeTo, putIn};
+ghost use Rattle.slot_list.specs.List.{isNoTable, placeOf, fieldsIn, slotIn, placeTo, putIn};
+use fields::Fields;
 use slots::Put;
 use slots::Slot;
 
@@ -54,7 +56,7 @@ fn place_of(count: usize, number: u64) -> usize
     (number - 1) as usize
 }
 
-// The slot of a number; an empty one if there is none.
+// The slot of a number, with its key; an empty one if there is none.
 pub fn slot_in(t: &[Slot], number: u64) -> Slot
     ensures { λ r. ⌜ r ≡ slotIn (now (t .entry)) number ⌝ }
 {
@@ -64,6 +66,19 @@ pub fn slot_in(t: &[Slot], number: u64) -> Slot
         slot = t[i];
     }
     slot
+}
+
+fn fields_of(slot: Slot) -> Fields
+    ensures { λ r. ⌜ r ≡ slot .fields ⌝ }
+{
+    slot.fields
+}
+
+// What the slot of a number shows; nothing if there is none.
+pub fn fields_in(t: &[Slot], number: u64) -> Fields
+    ensures { λ r. ⌜ r ≡ fieldsIn (now (t .entry)) number ⌝ }
+{
+    fields_of(slot_in(t, number))
 }
 
 fn slot_of(put: Put) -> Slot

@@ -28,6 +28,17 @@ pub record Seen : Type 0 where
 abbrev pub seen : Slot → Seen
 seen s = record { fields = s .fields; none = isEmpty s }
 
+module _ (s t : Slot) (same : seen s ≡ seen t) where
+  pub same-fields : s .fields ≡ t .fields
+  same-fields = ap (λ (v : Seen). v .fields) same
+
+  pub same-empty : isEmpty s ≡ isEmpty t
+  same-empty = ap (λ (v : Seen). v .none) same
+
+  pub same-filled : isFilled s ≡ isFilled t
+  unfolding isFilled
+  same-filled = ap (λ (f : Fields). allInRange (askedOf f)) same-fields
+
 abbrev pub Alike : List Slot → List Slot → Type 0
 Alike a b = map seen a ≡ map seen b
 
@@ -54,14 +65,13 @@ module _ (a b : List Slot) (alike : Alike a b) where
       sym (List·getD-map seen a (number - 1) nil) ∙ ap (λ (l : List Seen). getD l (number - 1) (seen nil)) alike ∙ List·getD-map seen b (number - 1) nil
 
   pub fields-alike : (number : ℕ) → slotAt a number .fields ≡ slotAt b number .fields
-  fields-alike number = ap (λ (v : Seen). v .fields) (seen-at number)
+  fields-alike number = same-fields _ _ (seen-at number)
 
   empty-alike : (number : ℕ) → isEmpty (slotAt a number) ≡ isEmpty (slotAt b number)
-  empty-alike number = ap (λ (v : Seen). v .none) (seen-at number)
+  empty-alike number = same-empty _ _ (seen-at number)
 
   filled-alike : (number : ℕ) → isFilled (slotAt a number) ≡ isFilled (slotAt b number)
-  unfolding isFilled
-  filled-alike number = ap (λ (f : Fields). allInRange (askedOf f)) (fields-alike number)
+  filled-alike number = same-filled _ _ (seen-at number)
 
   load-refusal-alike : (number : ℕ) (x : Asked) → loadRefusal a number x ≡ loadRefusal b number x
   unfolding loadRefusalOf

@@ -16,7 +16,6 @@ use Rattle.slots.specs.Slots.{empty, slotAt, withSlot}
 use Rattle.slots.specs.Calls.{loadRefusalOf, moveRefusalOf, loadedBy, movedSlot, movedBy, clearedBy}
 use Rattle.slots.specs.Seen.{putTo, changedBy, loadPut, movePut, emptiedBy, clearPut}
 use Rattle.slots.proofs.AsSeen.{Same, load-seen, move-seen, clear-seen}
-use Rattle.slots.proofs.Passed.{MovePassedOf, move-passed-of}
 
 abbrev answer : ℕ → List Slot → Changed
 answer refusal table = record { refusal = refusal; table = table }
@@ -36,9 +35,10 @@ module _ (bad : Bool) (table : List Slot) (number : ℕ) (s : Slot) (same : Same
       go true slot = refl
       go false slot = refl
 
-module _ (bad : Bool) (table : List Slot) (from to asked : ℕ) (s target : Slot) (same-from : Same bad from s (slotAt table from)) (same-to : Same bad to target (slotAt table to)) where
+module _ (bad : Bool) (table : List Slot) (from to asked : ℕ) (f g : Slot) (same-from : Same bad from f (slotAt table from)) (same-to : Same bad to g (slotAt table to))
+    (s : Slot) (carried : moveRefusalOf bad f g from to asked ≡ done → s ≡ slotAt table from) where
   -- the target's slot is put first, and then the source is emptied
-  pub move-put : let p = movePut bad s target from to asked in changedBy (putTo table to p) from (emptiedBy p) ≡ movedBy bad table from to asked
+  pub move-put : let p = movePut (moveRefusalOf bad f g from to asked) s asked in changedBy (putTo table to p) from (emptiedBy p) ≡ movedBy bad table from to asked
   move-put =
       (λ i. answer (seen i) (both (eqb (seen i) done)))
       ∙ ap (answer _) (go (eqb (seen₁) done) refl)
@@ -46,14 +46,12 @@ module _ (bad : Bool) (table : List Slot) (from to asked : ℕ) (s target : Slot
       seen₁ : ℕ
       seen₁ = moveRefusalOf bad (slotAt table from) (slotAt table to) from to asked
 
-      seen : moveRefusalOf bad s target from to asked ≡ seen₁
-      seen = move-seen bad from to asked s (slotAt table from) target (slotAt table to) same-from same-to
+      seen : moveRefusalOf bad f g from to asked ≡ seen₁
+      seen = move-seen bad from to asked f (slotAt table from) g (slotAt table to) same-from same-to
 
       both : Bool → List Slot
       both u = let t = pick u (withSlot table to (pick u (movedSlot s asked) empty)) table in pick u (withSlot t from empty) t
 
       go : (u : Bool) → eqb seen₁ done ≡ u → both u ≡ pick u (withSlot (withSlot table to (movedSlot (slotAt table from) asked)) from empty) table
-      go true e =
-          let passed : MovePassedOf bad (slotAt table from) (slotAt table to) from to asked = move-passed-of _ _ _ from to asked (eqb-true seen₁ done e) in
-          ap (λ (x : Slot). withSlot (withSlot table to (movedSlot x asked)) from empty) (same-from (passed .good) (passed .from-numbered))
+      go true e = ap (λ (x : Slot). withSlot (withSlot table to (movedSlot x asked)) from empty) (carried (seen ∙ eqb-true seen₁ done e))
       go false e = refl

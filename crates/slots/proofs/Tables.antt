@@ -1,5 +1,5 @@
 -- Empty, filled and bad slots, and tables without a bad slot. Assumes nothing.
-use mathlib.Core.Bool.{Bool, true, false, _&&_, _||_, not, and-false, true≢false}
+use mathlib.Core.Bool.{Bool, true, false, _&&_, _||_, not, and-true, and-false, true≢false}
 use mathlib.Core.List.{List, [], _∷_}
 use mathlib.Core.Path.{_≡_, refl, sym, ap, _∙_}
 use Prim.Native.Nat.{ℕ, zero, suc, _+_, _<_, _≤_}
@@ -12,10 +12,11 @@ use lib.Seq.{drop-cons}
 use Rattle.laws.proofs.Cases.{and-left, and-right, neither}
 use Rattle.refusals.specs.Numbers.{done, codeUnknown, sideOrPlaceBad, networkBad, refuse}
 use Rattle.fields.specs.declared.Asked.{Asked}
+use Rattle.fields.specs.declared.Fields.{Fields}
 use Rattle.fields.specs.Fields.{isAlgorithm, isUse, isSide, isPlace, isMcc, isMnc, allInRange, rightsRefusal, askedOf}
 use Rattle.fields.proofs.Ranges.{between-low}
 use Rattle.slots.specs.declared.Slot.{Slot}
-use Rattle.slots.specs.Slots.{nil, allZero, isEmpty, isFilled, isBad, hasBad}
+use Rattle.slots.specs.Slots.{nil, keyless, isNoFields, allZero, isEmpty, isFilled, isBad, hasBad}
 
 -- the fields are in their ranges where the algorithm is and no right is refused
 pub in-range : (a : Asked) → allInRange a ≡ isAlgorithm (a .algorithm) && eqb (rightsRefusal a) done
@@ -44,6 +45,11 @@ bad-next table i h = rw (add-one, drop-cons table i nil h)
 pub bad-none : (table : List Slot) (i : ℕ) → length table ≤ i → hasBad (drop i table) ≡ false
 unfolding hasBad
 bad-none table i h = rw (drop-of-length-le table h)
+
+-- a slot whose key is not read is empty where no field is there
+pub keyless-empty : (f : Fields) → isEmpty (keyless f) ≡ isNoFields f
+unfolding isEmpty allZero
+keyless-empty f = and-true (isNoFields f)
 
 -- a slot is empty, filled or bad, and only one of these
 

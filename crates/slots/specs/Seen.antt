@@ -12,11 +12,15 @@ use Rattle.slots.specs.declared.Slot.{Slot}
 use Rattle.slots.specs.declared.Put.{Put}
 use Rattle.slots.specs.declared.Changed.{Changed}
 use Rattle.slots.specs.Slots.{empty, slotAt, withSlot}
-use Rattle.slots.specs.Calls.{loadRefusalOf, moveRefusalOf, clearRefusalOf, movedSlot}
+use Rattle.slots.specs.Calls.{loadRefusalOf, clearRefusalOf, movedSlot}
 
 -- a call with a number that is none is refused whatever the slot is
 abbrev pub slotAs : List Slot → ℕ → Slot
 slotAs table number = pick (isSlotNumber number) (slotAt table number) empty
+
+-- the number of the slot whose key a call reads: one that is no slot's, unless it needs a key
+abbrev pub keySlot : Bool → ℕ → ℕ
+keySlot needed number = pick needed number 0
 
 -- after a refusal the slot is not looked at
 abbrev pub putBy : ℕ → Slot → Put
@@ -33,8 +37,8 @@ abbrev pub loadPut : Bool → Slot → ℕ → Asked → List ℕ → Put
 loadPut bad slot number a key = putBy (loadRefusalOf bad slot number a) (record { fields = storedOf a; key = key })
 
 -- what the target becomes
-abbrev pub movePut : Bool → Slot → Slot → ℕ → ℕ → ℕ → Put
-movePut bad slot target from to asked = putBy (moveRefusalOf bad slot target from to asked) (movedSlot slot asked)
+abbrev pub movePut : ℕ → Slot → ℕ → Put
+movePut refusal slot asked = putBy refusal (movedSlot slot asked)
 
 -- the same answer, for a slot that is emptied
 abbrev pub emptiedBy : Put → Put

@@ -35,9 +35,13 @@ unfoldable pub hasBad : List Slot → Bool
 hasBad [] = false
 hasBad (s ∷ table) = isBad s || hasBad table
 
+-- a slot that shows these fields, for a call that does not read its key
+abbrev pub keyless : Fields → Slot
+keyless f = record { fields = f; key = replicate 24 0 }
+
 -- the slot that a call empties
 abbrev pub empty : Slot
-empty = record { fields = noFields; key = replicate 24 0 }
+empty = keyless noFields
 
 abbrev pub emptyTable : List Slot
 emptyTable = replicate 32 empty

@@ -2,15 +2,19 @@
 ghost use mathlib.Core.Path.{_≡_};
 ghost use mathlib.Core.Bool.{true};
 ghost use Prim.Native.Nat.{_-_, _<_};
+ghost use lib.Dec.{eqb};
 ghost use Rattle.refusals.specs.Numbers.{done};
 ghost use Rattle.fields.specs.Fields.{isSlotNumber, askedOf};
-ghost use Rattle.slots.specs.Slots.{noFields, isNoFields, allZero, isEmpty, isFilled, isBad, hasBad, empty, emptyTable, slotAt, withSlot};
+ghost use Rattle.slots.specs.Slots.{noFields, isNoFields, allZero, isEmpty, isFilled, isBad, hasBad, empty, keyless, emptyTable, slotAt, withSlot};
 ghost use Rattle.slots.specs.Rights.{isDirection, includes, within, isAskedUse, movedUse, staysWithin, mayMove};
 ghost use Rattle.slots.specs.Calls.{loadRefusalOf, moveRefusalOf, slotRefusalOf, clearRefusalOf, loaded, movedSlot, moved, cleared, shownOf, shown};
-ghost use Rattle.slots.specs.Seen.{changedBy, slotAs, loadPut, movePut, emptiedBy, clearPut};
+ghost use Rattle.slots.specs.Seen.{changedBy, slotAs, keySlot, loadPut, movePut, emptiedBy, clearPut};
 use fields::Asked;
 use fields::Fields;
 use refusals::refuse;
+
+// The number of no slot.
+pub const NO_SLOT: u64 = 0;
 
 // What may be shown, and what may not.
 #[repr(C)]
@@ -38,7 +42,7 @@ pub struct Put {
     pub slot: Slot,
 }
 
-fn no_fields() -> Fields
+pub fn no_fields() -> Fields
     ensures { λ r. ⌜ r ≡ noFields ⌝ }
 {
     Fields {
@@ -118,12 +122,18 @@ fn is_empty(slot: Slot) -> bool
     is_no_fields(f) && all_zero(k)
 }
 
+fn are_filled(f: Fields) -> bool
+    ensures { λ r. ⌜ r ≡ isFilled (keyless f) ⌝ }
+{
+    let a = asked(f);
+    fields::is_algorithm(a.algorithm) && fields::rights_refusal(a) == refusals::DONE
+}
+
 pub fn is_filled(slot: Slot) -> bool
     ensures { λ r. ⌜ r ≡ isFilled slot ⌝ }
 {
     let f = slot.fields;
-    let a = asked(f);
-    fields::is_algorithm(a.algorithm) && fields::rights_refusal(a) == refusals::DONE
+    are_filled(f)
 }
 
 pub fn is_bad(slot: Slot) -> bool
@@ -168,6 +178,14 @@ pub fn slot_or_empty(table: [Slot; 32], number: u64) -> Slot
         return empty_slot();
     }
     slot_at(table, number)
+}
+
+// What it shows.
+fn fields_or_none(table: [Slot; 32], number: u64) -> Fields
+    ensures { λ r. ⌜ r ≡ slotAs table number .fields ⌝ }
+{
+    let slot = slot_or_empty(table, number);
+    slot.fields
 }
 
 pub fn with_slot(table: [Slot; 32], number: u64, slot: Slot) -> [Slot; 32]
@@ -223,9 +241,12 @@ fn is_asked_use(asked: u64) -> bool
     asked <= 3
 }
 
+// Each call is judged by whether its table is bad and by the fields of its slots. No key is looked at: in a table without a bad slot,
+// a slot that shows nothing is empty.
+
 // Refusals 16, 7, 1, 10, 11, 20, 9, in this order.
-fn load_refusal(bad: bool, slot: Slot, number: u64, asked: Asked) -> u8
-    ensures { λ r. ⌜ r ≡ loadRefusalOf bad slot number asked ⌝ }
+fn load_refusal(bad: bool, f: Fields, number: u64, asked: Asked) -> u8
+    ensures { λ r. ⌜ r ≡ loadRefusalOf bad (keyless f) number asked ⌝ }
 {
     let rights = fields::rights_refusal(asked);
     refuse(
@@ -240,7 +261,7 @@ fn load_refusal(bad: bool, slot: Slot, number: u64, asked: Asked) -> u8
                 refuse(
                     rights != refusals::DONE,
                     rights,
-                    refuse(is_filled(slot), refusals::TARGET_FILLED, refusals::DONE),
+                    refuse(are_filled(f), refusals::TARGET_FILLED, refusals::DONE),
                 ),
             ),
         ),
@@ -248,10 +269,9 @@ fn load_refusal(bad: bool, slot: Slot, number: u64, asked: Asked) -> u8
 }
 
 // Refusals 16, 7 for either number, 8, 9, 10, 14, in this order.
-fn move_refusal(bad: bool, slot: Slot, target: Slot, from: u64, to: u64, asked: u64) -> u8
-    ensures { λ r. ⌜ r ≡ moveRefusalOf bad slot target from to asked ⌝ }
+pub fn move_refusal(bad: bool, f: Fields, target: Fields, from: u64, to: u64, asked: u64) -> u8
+    ensures { λ r. ⌜ r ≡ moveRefusalOf bad (keyless f) (keyless target) from to asked ⌝ }
 {
-    let f = slot.fields;
     refuse(
         bad,
         refusals::TABLE,
@@ -262,10 +282,10 @@ fn move_refusal(bad: bool, slot: Slot, target: Slot, from: u64, to: u64, asked: 
                 !fields::is_slot_number(to),
                 refusals::SLOT_NUMBER,
                 refuse(
-                    is_empty(slot),
+                    is_no_fields(f),
                     refusals::SLOT_EMPTY,
                     refuse(
-                        is_filled(target),
+                        are_filled(target),
                         refusals::TARGET_FILLED,
                         refuse(
                             !is_asked_use(asked),
@@ -284,21 +304,32 @@ fn move_refusal(bad: bool, slot: Slot, target: Slot, from: u64, to: u64, asked: 
 }
 
 // Refusals 7, 8, in this order.
-pub fn slot_refusal(slot: Slot, number: u64) -> u8
-    ensures { λ r. ⌜ r ≡ slotRefusalOf slot number ⌝ }
+pub fn slot_refusal(f: Fields, number: u64) -> u8
+    ensures { λ r. ⌜ r ≡ slotRefusalOf (keyless f) number ⌝ }
 {
     refuse(
         !fields::is_slot_number(number),
         refusals::SLOT_NUMBER,
-        refuse(is_empty(slot), refusals::SLOT_EMPTY, refusals::DONE),
+        refuse(is_no_fields(f), refusals::SLOT_EMPTY, refusals::DONE),
     )
 }
 
 // Refusals 16, 7, 8, in this order.
-fn clear_refusal(bad: bool, slot: Slot, number: u64) -> u8
-    ensures { λ r. ⌜ r ≡ clearRefusalOf bad slot number ⌝ }
+fn clear_refusal(bad: bool, f: Fields, number: u64) -> u8
+    ensures { λ r. ⌜ r ≡ clearRefusalOf bad (keyless f) number ⌝ }
 {
-    refuse(bad, refusals::TABLE, slot_refusal(slot, number))
+    refuse(bad, refusals::TABLE, slot_refusal(f, number))
+}
+
+// Whose key a call with this refusal reads: the slot's of its number, and no slot's after a refusal.
+pub fn key_slot(refusal: u8, number: u64) -> u64
+    ensures { λ r. ⌜ r ≡ keySlot (eqb refusal done) number ⌝ }
+{
+    if refusal == refusals::DONE {
+        number
+    } else {
+        NO_SLOT
+    }
 }
 
 // The slot as a move leaves it in its new place.
@@ -312,12 +343,12 @@ fn moved_slot(slot: Slot, asked: u64) -> Slot
     Slot { fields, key }
 }
 
-// The calls on one slot, by whether its table is bad and by what the slot is.
+// The calls on one slot, by whether its table is bad and by what the slot shows.
 
-pub fn load_of(bad: bool, slot: Slot, number: u64, asked: Asked, key: [u8; 24]) -> Put
-    ensures { λ r. ⌜ r ≡ loadPut bad slot number asked key ⌝ }
+pub fn load_of(bad: bool, f: Fields, number: u64, asked: Asked, key: [u8; 24]) -> Put
+    ensures { λ r. ⌜ r ≡ loadPut bad (keyless f) number asked key ⌝ }
 {
-    let refusal = load_refusal(bad, slot, number, asked);
+    let refusal = load_refusal(bad, f, number, asked);
     if refusal != refusals::DONE {
         return Put {
             refusal,
@@ -331,11 +362,11 @@ pub fn load_of(bad: bool, slot: Slot, number: u64, asked: Asked, key: [u8; 24]) 
     Put { refusal, slot }
 }
 
-// What the target becomes; the source becomes an empty slot.
-pub fn move_of(bad: bool, slot: Slot, target: Slot, from: u64, to: u64, asked: u64) -> Put
-    ensures { λ r. ⌜ r ≡ movePut bad slot target from to asked ⌝ }
+// What the target becomes of a move with this refusal; the source becomes an empty slot. The slot is looked at where it is carried.
+pub fn move_of(refusal: u8, slot: Slot, asked: u64) -> Put
+    requires { ⌜ (refusal ≡ done → staysWithin (slot .fields .usage) asked ≡ true) ⌝ }
+    ensures { λ r. ⌜ r ≡ movePut refusal slot asked ⌝ }
 {
-    let refusal = move_refusal(bad, slot, target, from, to, asked);
     if refusal != refusals::DONE {
         return Put {
             refusal,
@@ -358,20 +389,20 @@ pub fn emptied(put: Put) -> Put
     }
 }
 
-pub fn clear_of(bad: bool, slot: Slot, number: u64) -> Put
-    ensures { λ r. ⌜ r ≡ clearPut bad slot number ⌝ }
+pub fn clear_of(bad: bool, f: Fields, number: u64) -> Put
+    ensures { λ r. ⌜ r ≡ clearPut bad (keyless f) number ⌝ }
 {
-    let refusal = clear_refusal(bad, slot, number);
+    let refusal = clear_refusal(bad, f, number);
     Put {
         refusal,
         slot: empty_slot(),
     }
 }
 
-pub fn read_of(bad: bool, slot: Slot, number: u64) -> Shown
-    ensures { λ r. ⌜ r ≡ shownOf bad slot number ⌝ }
+pub fn read_of(bad: bool, f: Fields, number: u64) -> Shown
+    ensures { λ r. ⌜ r ≡ shownOf bad (keyless f) number ⌝ }
 {
-    let refusal = clear_refusal(bad, slot, number);
+    let refusal = clear_refusal(bad, f, number);
     if refusal != refusals::DONE {
         return Shown {
             refusal,
@@ -379,11 +410,10 @@ pub fn read_of(bad: bool, slot: Slot, number: u64) -> Shown
             fields: no_fields(),
         };
     }
-    let fields = slot.fields;
     Shown {
         refusal,
         number,
-        fields,
+        fields: f,
     }
 }
 
@@ -411,7 +441,7 @@ pub fn load(table: [Slot; 32], number: u64, asked: Asked, key: [u8; 24]) -> Chan
 {
     let put = load_of(
         table_is_bad(table),
-        slot_or_empty(table, number),
+        fields_or_none(table, number),
         number,
         asked,
         key,
@@ -423,14 +453,15 @@ pub fn load(table: [Slot; 32], number: u64, asked: Asked, key: [u8; 24]) -> Chan
 pub fn move_slot(table: [Slot; 32], from: u64, to: u64, asked: u64) -> Changed
     ensures { λ r. ⌜ r ≡ moved table from to asked ⌝ }
 {
-    let put = move_of(
+    let refusal = move_refusal(
         table_is_bad(table),
-        slot_or_empty(table, from),
-        slot_or_empty(table, to),
+        fields_or_none(table, from),
+        fields_or_none(table, to),
         from,
         to,
         asked,
     );
+    let put = move_of(refusal, slot_or_empty(table, from), asked);
     let carried = put_to(table, to, put);
     let t = carried.table;
     put_to(t, from, emptied(put))
@@ -440,7 +471,7 @@ pub fn move_slot(table: [Slot; 32], from: u64, to: u64, asked: u64) -> Changed
 pub fn clear(table: [Slot; 32], number: u64) -> Changed
     ensures { λ r. ⌜ r ≡ cleared table number ⌝ }
 {
-    let put = clear_of(table_is_bad(table), slot_or_empty(table, number), number);
+    let put = clear_of(table_is_bad(table), fields_or_none(table, number), number);
     put_to(table, number, put)
 }
 
@@ -448,5 +479,5 @@ pub fn clear(table: [Slot; 32], number: u64) -> Changed
 pub fn read(table: [Slot; 32], number: u64) -> Shown
     ensures { λ r. ⌜ r ≡ shown table number ⌝ }
 {
-    read_of(table_is_bad(table), slot_or_empty(table, number), number)
+    read_of(table_is_bad(table), fields_or_none(table, number), number)
 }

@@ -12,7 +12,7 @@ use Rattle.slots.specs.Slots.{hasBad, slotAt}
 use Rattle.slots.specs.Rights.{isDirection, includes}
 use Rattle.slots.specs.Calls.{slotRefusalOf}
 use Rattle.slots.proofs.Passed.{SlotPassedOf, slot-passed-of}
-use Rattle.traffic.specs.Traffic.{onSide, useRefusalOf, trafficRefusalOf, trafficRefusal}
+use Rattle.traffic.specs.Traffic.{onSide, useRefusalOf, trafficRefusalOf, TrafficMay, trafficRefusal}
 use Rattle.ciphering.proofs.Passed.{SpanPassed, span-passed}
 
 -- a slot's key may be used in this direction with this initial value
@@ -55,6 +55,13 @@ traffic-passed-of bad s direction number iv buf start n skip e =
       allowed = use-passed-of bad s direction number iv (eqb-true (useRefusalOf bad s direction number iv) 0 (opened .0));
       span = span-passed (length buf) start n skip (opened .1);
     }
+
+-- so the work may be done
+pub traffic-may : (bad : Bool) (s : Slot) (direction number : ℕ) (iv buf : List ℕ) (start n skip : ℕ)
+    → TrafficMay (trafficRefusalOf bad s direction number iv buf start n skip) iv buf start n skip
+unfolding trafficRefusalOf
+traffic-may bad s direction number iv buf start n skip e =
+    (traffic-passed-of bad s direction number iv buf start n skip e .allowed .iv-10, unpicked-own (useRefusalOf bad s direction number iv) _ e .1)
 
 -- the same of a table
 

@@ -1,7 +1,9 @@
 -- Traffic (document 01, "Slots and rights"): direction, slot number, IV, buffer, start bit, length and skip. The order of its refusals stands
--- once, over what the call sees of its table: whether it is bad, and the slot of its number. Assumes nothing: these are definitions.
+-- once, over what the call sees of its table: whether it is bad, and the slot of its number. What it answers then is said by the refusal, and by
+-- the key where it is done. Assumes nothing: these are definitions.
 use mathlib.Core.Bool.{Bool, not}
 use mathlib.Core.List.{List}
+use mathlib.Core.Path.{_≡_}
 use Prim.Native.Nat.{ℕ}
 use lib.Dec.{eqb}
 use lib.ListN.{length}
@@ -42,17 +44,28 @@ trafficRefusalOf bad slot direction number iv buf start n skip =
 abbrev pub slotStream : Slot → List ℕ → ℕ → ℕ
 slotStream s iv = keystream (s .fields .algorithm) (s .key) iv
 
--- the buffer afterwards: bit start + i is itself xor keystream bit skip + i, for i below n; a refusal changes nothing
+-- all that a call answers that was judged so, by the buffer that its work leaves and the blocks that it makes: a refusal changes nothing and
+-- reports no block
+abbrev pub afterJudging : ℕ → List ℕ → List ℕ → ℕ → Ciphered
+afterJudging refusal worked buf blocks = cipheredAs refusal (pick (eqb refusal done) worked buf) (pick (eqb refusal done) blocks 0)
+
+-- buffer bit start + i is itself xor keystream bit skip + i, for i below n
+abbrev pub trafficAfter : ℕ → Slot → List ℕ → List ℕ → ℕ → ℕ → ℕ → Ciphered
+trafficAfter refusal slot iv buf start n skip = afterJudging refusal (xored buf (slotStream slot iv) start skip n) buf (blocksUsed skip n)
+
+-- what the work needs of a call that is not refused
+abbrev pub TrafficMay : ℕ → List ℕ → List ℕ → ℕ → ℕ → ℕ → Type 0
+TrafficMay refusal iv buf start n skip = refusal ≡ done → (length iv ≡ 10) × (spanRefusal (length buf) start n skip ≡ done)
+
+-- the buffer afterwards
 unfoldable pub traffickedOf : Bool → Slot → ℕ → ℕ → List ℕ → List ℕ → ℕ → ℕ → ℕ → List ℕ
 traffickedOf bad slot direction number iv buf start n skip =
-    pick (eqb (trafficRefusalOf bad slot direction number iv buf start n skip) done)
-    (xored buf (slotStream slot iv) start skip n)
-    buf
+    trafficAfter (trafficRefusalOf bad slot direction number iv buf start n skip) slot iv buf start n skip .buffer
 
 -- the blocks reported
 unfoldable pub trafficBlocksOf : Bool → Slot → ℕ → ℕ → List ℕ → List ℕ → ℕ → ℕ → ℕ → ℕ
 trafficBlocksOf bad slot direction number iv buf start n skip =
-    pick (eqb (trafficRefusalOf bad slot direction number iv buf start n skip) done) (blocksUsed skip n) 0
+    trafficAfter (trafficRefusalOf bad slot direction number iv buf start n skip) slot iv buf start n skip .blocks
 
 -- all that the call answers
 abbrev pub trafficAnswerOf : Bool → Slot → ℕ → ℕ → List ℕ → List ℕ → ℕ → ℕ → ℕ → Ciphered

@@ -1,8 +1,9 @@
 // Traffic with a slot's key, on any run of bits of a lent buffer.
 ghost use mathlib.Core.Path.{_≡_};
 ghost use Rattle.laws.specs.Bits.{bitAt};
-ghost use Rattle.ciphering.specs.Span.{schedulesFor};
-ghost use Rattle.traffic.specs.Traffic.{onSide, useRefusalOf, trafficRefusalOf, traffickedOf, trafficBlocksOf, trafficRefusal, trafficked, trafficBlocks};
+ghost use Rattle.slots.specs.Slots.{keyless};
+ghost use Rattle.ciphering.specs.Span.{schedulesFor, cipheredAs};
+ghost use Rattle.traffic.specs.Traffic.{onSide, useRefusalOf, trafficRefusalOf, TrafficMay, trafficAfter};
 use ciphering::Report;
 use ciphering::lent::iv_of;
 use ciphering::span_refusals::span_refusal;
@@ -37,11 +38,10 @@ fn on_side(direction: u64, f: Fields, iv: &[u8]) -> bool
 }
 
 // Refusals 16, 10, 7, 8, 12, 3, 13, in this order.
-pub fn use_refusal(bad: bool, slot: Slot, direction: u64, number: u64, iv: &[u8]) -> u8
-    ensures { λ r. ⌜ r ≡ useRefusalOf bad slot direction number (now (iv .entry)) ⌝ }
+pub fn use_refusal(bad: bool, f: Fields, direction: u64, number: u64, iv: &[u8]) -> u8
+    ensures { λ r. ⌜ r ≡ useRefusalOf bad (keyless f) direction number (now (iv .entry)) ⌝ }
 {
-    let f = slot.fields;
-    let slot_refusal = slots::slot_refusal(slot, number);
+    let slot_refusal = slots::slot_refusal(f, number);
     refuse(
         bad,
         refusals::TABLE,
@@ -69,10 +69,10 @@ pub fn use_refusal(bad: bool, slot: Slot, direction: u64, number: u64, iv: &[u8]
     )
 }
 
-// Refusals 16, 10, 7, 8, 12, 3, 13, 5, 4, 6, in this order.
-fn traffic_refusal(
+// Refusals 16, 10, 7, 8, 12, 3, 13, 5, 4, 6, in this order, by what the slot shows: no key is read to judge a call.
+pub fn traffic_refusal(
     bad: bool,
-    slot: Slot,
+    f: Fields,
     direction: u64,
     number: u64,
     iv: &[u8],
@@ -81,9 +81,9 @@ fn traffic_refusal(
     n: usize,
     skip: usize,
 ) -> u8
-    ensures { λ r. ⌜ r ≡ trafficRefusalOf bad slot direction number (now (iv .entry)) (now (buf .entry)) start n skip ⌝ }
+    ensures { λ r. ⌜ r ≡ trafficRefusalOf bad (keyless f) direction number (now (iv .entry)) (now (buf .entry)) start n skip ⌝ }
 {
-    let use_refusal = use_refusal(bad, slot, direction, number, iv);
+    let use_refusal = use_refusal(bad, f, direction, number, iv);
     refuse(
         use_refusal != refusals::DONE,
         use_refusal,
@@ -91,24 +91,22 @@ fn traffic_refusal(
     )
 }
 
-// Buffer bit start + i becomes itself xor keystream bit skip + i, for i below n; every other bit stays. Reports how many blocks were made.
+// The work of a call that was judged: buffer bit start + i becomes itself xor keystream bit skip + i, for i below n; every other bit stays. Reports how
+// many blocks were made. After a refusal the slot is not looked at.
 pub fn traffic_of(
-    bad: bool,
+    refusal: u8,
     slot: Slot,
-    direction: u64,
-    number: u64,
     iv: &[u8],
     buf: &mut [u8],
     start: usize,
     n: usize,
     skip: usize,
 ) -> Report
-    ensures { λ r. ⌜ (r .refusal ≡ trafficRefusalOf bad slot direction number (now (iv .entry)) (now (buf .entry)) start n skip)
-        × (r .blocks ≡ trafficBlocksOf bad slot direction number (now (iv .entry)) (now (buf .entry)) start n skip)
-        × (now (buf .exit) ≡ traffickedOf bad slot direction number (now (iv .entry)) (now (buf .entry)) start n skip)
-        × (r .schedules ≡ schedulesFor (trafficBlocksOf bad slot direction number (now (iv .entry)) (now (buf .entry)) start n skip)) ⌝ }
+    requires { ⌜ TrafficMay refusal (now iv) (now buf) start n skip ⌝ }
+    ensures { λ r. ⌜ (cipheredAs (r .refusal) (now (buf .exit)) (r .blocks)
+        ≡ trafficAfter refusal slot (now (iv .entry)) (now (buf .entry)) start n skip)
+        × (r .schedules ≡ schedulesFor (r .blocks)) ⌝ }
 {
-    let refusal = traffic_refusal(bad, slot, direction, number, iv, &buf[..], start, n, skip);
     if refusal != refusals::DONE {
         return Report {
             refusal,
@@ -125,25 +123,4 @@ pub fn traffic_of(
         blocks: made.blocks,
         schedules: made.schedules,
     }
-}
-
-// The same on a table by value.
-pub fn traffic(
-    table: [Slot; 32],
-    direction: u64,
-    number: u64,
-    iv: &[u8],
-    buf: &mut [u8],
-    start: usize,
-    n: usize,
-    skip: usize,
-) -> Report
-    ensures { λ r. ⌜ (r .refusal ≡ trafficRefusal table direction number (now (iv .entry)) (now (buf .entry)) start n skip)
-        × (r .blocks ≡ trafficBlocks table direction number (now (iv .entry)) (now (buf .entry)) start n skip)
-        × (now (buf .exit) ≡ trafficked table direction number (now (iv .entry)) (now (buf .entry)) start n skip)
-        × (r .schedules ≡ schedulesFor (trafficBlocks table direction number (now (iv .entry)) (now (buf .entry)) start n skip)) ⌝ }
-{
-    let bad = slots::table_is_bad(table);
-    let slot = slots::slot_or_empty(table, number);
-    traffic_of(bad, slot, direction, number, iv, buf, start, n, skip)
 }

@@ -1,9 +1,8 @@
--- The step is the card's: for each public call, what its contract tells a caller makes the answer the step. Assumes nothing.
+-- The step is the card's: for each call on a table by value, what its contract tells a caller makes the answer the step. Assumes nothing.
 -- `Learnt`, of a function's module, is its `ensures` as it stands in the source: of the arguments, the result r, and e, the parameters at exit.
 use mathlib.Core.List.{List}
 use mathlib.Core.Path.{_≡_, ap}
 use Prim.Native.Nat.{ℕ}
-use denote.Ref.{RefT}
 use Rattle.fields.specs.declared.Asked.{Asked}
 use Rattle.slots.specs.declared.Slot.{Slot}
 use Rattle.slots.specs.declared.Changed.{Changed}
@@ -14,10 +13,8 @@ use Rattle.slots.proofs.load.Reads as slots-load
 use Rattle.slots.proofs.move_slot.Reads as slots-move-slot
 use Rattle.slots.proofs.clear.Reads as slots-clear
 use Rattle.slots.proofs.read.Reads as slots-read
-use Rattle.ciphering.specs.declared.Report.{Report}
-use Rattle.traffic.proofs.traffic.Reads as card-traffic
-use Rattle.two_runs.specs.Calls.{span, load, move, clear, read, traffic}
-use Rattle.two_runs.specs.Step.{changing, reading, ciphering}
+use Rattle.two_runs.specs.Calls.{load, move, clear, read}
+use Rattle.two_runs.specs.Step.{changing, reading}
 use Rattle.two_runs.specs.Card.{ourCard, step}
 
 pub empty-table-starts : (r : List Slot) (κs : _) (e : _) → slots-empty-table.Learnt κs tt r e → r ≡ emptyTable
@@ -43,11 +40,3 @@ module _ (table : List Slot) where
       → slots-read.Learnt κs (table, (number, tt)) r e → reading table r ≡ step ourCard table (read number)
   unfolding step
   read-steps number r κs e ensures = ap (reading table) ensures
-
-  -- the buffer is the fifth parameter: `buf .now` at entry, `e .1 .1 .1 .1 .0 .now` at exit
-  pub traffic-steps : (direction number : ℕ) (iv buf : RefT (List ℕ)) (begin n skip : ℕ) (r : Report) (κs : _) (e : _)
-      → card-traffic.Learnt κs (table, (direction, (number, (iv, (buf, (begin, (n, (skip, tt)))))))) r e
-      → ciphering table (r .refusal) (r .blocks) (e .1 .1 .1 .1 .0 .now) ≡ step ourCard table (traffic (record { direction = direction; number = number; iv = iv .now }) (buf .now) (span begin n skip))
-  unfolding step
-  traffic-steps direction number iv buf begin n skip r κs e ensures =
-      λ i. ciphering table (ensures .0 i) (ensures .1 i) (ensures .2 i)

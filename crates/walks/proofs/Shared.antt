@@ -2,6 +2,7 @@
 --     LentShared       what the holder keeps meanwhile: the lender's part at κ′, and its own borrow at κ, open, with both halves of its ghost variable
 --     lends-shared     own (the `&κ mut [T]` ((b, o), γ, ys)) ∗ [κ]_q  ⊢ ⇛ ∃ γ₁. own (the `&κ′ [T]` ((b, o), γ₁, ys)) ∗ LentShared
 --     shared-back      given `Room`:  [†κ′] ∗ LentShared  ⊢ ⇛ (own (the `&κ mut [T]` ((b, o), γ, ys)) ∗ [κ]_q)
+--     lends-read, read-back    the two as steps of a walk, before and after a call: the first makes the lifetime of the call, the second ends it
 -- Assumes `Given`.
 use mathlib.Core.Path.{refl}
 use Prim.Native.Nat.{ℕ}
@@ -15,8 +16,8 @@ use base.Logic.{ent, sep, ex}
 use base.Fml.{Lft, GName, Share, Fml, fsep, flft, fdead, fobs, fauth, flent, fobor}
 use prog.Wp.{Heap}
 use ghost.Atoms.{Atoms, sem}
-use types.Kit.{Given, ‵, _⊛_, some, later, _$_, _∵_, !, qed, move, use1, drop, split, pick, fsplit, fjoin, feqI, frame, await, updating, now as at-once, show, done}
-use types.Tokens.{lent-back}
+use types.Kit.{Given, Item, Goal, Seq, Soaks, ‵, _⊛_, some, later, _$_, _∵_, !, qed, move, use1, use2, drop, split, pick, fsplit, fjoin, feqI, frame, await, updating, now as at-once, show, done}
+use types.Tokens.{lft-new, lft-end, lent-back}
 use types.Share.{arr-parts}
 use denote.RattleType.{RattleType}
 use denote.Shadow.{pureL, pureI}
@@ -55,3 +56,24 @@ module _ (R : RattleType) (κ κ′ : Lft) (q : Share) (γ : GName) (b o : ℕ) 
         qed W (‵ (fdead κ′) ∷ ‵ (LentShared ys) ∷ []) ∵ updating ! $ move ! (1 ∷ []) $ fsplit ! $ move ! (2 ∷ 0 ∷ []) $ lent-back ! tt $ fsplit ! $ drop ! $
         move ! (1 ∷ []) $ fsplit ! $ move ! (1 ∷ []) $ fsplit ! $ move ! (3 ∷ 2 ∷ 0 ∷ 1 ∷ []) $ closes-slice ! tt R ys ys refl b o $ at-once ! $
         fjoin ! $ pureI ! (at-slice R (at-list γ ys) vals) (tt, (tt, tt)) (refl, room) $ fjoin ! $ done !
+
+module _ (R : RattleType) (ℓ : Lifetime) (κ : Lft) (q : Share) (γ : GName) (b o : ℕ) (ys : List (R .Denot)) where
+  -- what its holder owns, and what the callee is lent
+  abbrev Own : Fml
+  Own = MutSlice ℓ κ R .own (record { ptr = (b, o); name = γ; now = ys }) (sliceVal (b, o) (length ys) ∷ [])
+
+  abbrev pub Read : ℕ → GName → Fml
+  Read α δ = ShrSlice ℓ (α ∷ []) R .own (record { ptr = (b, o); name = δ; now = ys }) (sliceVal (b, o) (length ys) ∷ [])
+
+  module _ {M : Type 1} {𝓤 : URA M} {H : Heap 𝓤} {A : Atoms 𝓤} {K : Type 0} {W : Given 𝓤 H A} {Γ : List (Item 𝓤)} {G : Goal 𝓤 H} where
+    pub lends-read : K → Soaks G → ((α : ℕ) (δ : GName) → Seq K W (‵ (Read α δ) ∷ ‵ (flft (α ∷ []) fullShare) ∷ ‵ (LentShared R κ (α ∷ []) q γ b o ys) ∷ Γ) G)
+        → Seq K W (‵ Own ∷ ‵ (flft κ q) ∷ Γ) G
+    lends-read t a k =
+        lft-new t a (λ α. move t (1 ∷ 2 ∷ []) $
+        use2 W (later (some (λ (δ : GName). ‵ (Read α δ) ⊛ ‵ (LentShared R κ (α ∷ []) q γ b o ys)))) (lends-shared R κ (α ∷ []) q γ b o 𝓤 H A W ℓ ℓ ys) $
+        await t a $ pick t (λ δ. split t $ move t (0 ∷ 2 ∷ []) $ k α δ))
+
+    pub read-back : K → Soaks G → (α : ℕ) → Room R (length ys) → Seq K W (‵ Own ∷ ‵ (flft κ q) ∷ Γ) G
+        → Seq K W (‵ (flft (α ∷ []) fullShare) ∷ ‵ (LentShared R κ (α ∷ []) q γ b o ys) ∷ Γ) G
+    read-back t a α room k =
+        lft-end t a $ use2 W (later (‵ Own ⊛ ‵ (flft κ q))) (shared-back R κ (α ∷ []) q γ b o 𝓤 H A W ℓ ℓ ys room) $ await t a $ split t $ k

@@ -9,7 +9,7 @@ use lib.Dec.{eqb}
 use lib.ListN.{length}
 use Rattle.laws.proofs.Cases.{and-left, and-right}
 use Rattle.span.specs.Span.{xored}
-use Rattle.span.proofs.Laws.{Bytes, xored-none}
+use Rattle.span.proofs.Laws.{Bytes, xored-none, xored-same}
 use Rattle.span.proofs.Blocks.{used-none, both-none, both-pos}
 use Rattle.plan.specs.declared.Piece.{Piece}
 use Rattle.plan.specs.declared.Plan.{Plan}
@@ -46,6 +46,15 @@ module _ (p : Plan) where
   pub none-blocks : hasNoPiece p ≡ true → planBlocks p ≡ 0
   none-blocks e =
       rw (empty-second e) (both-none (p .first .skip) (p .first .length) (p .second .skip) ∙ used-none (p .first .skip) (p .first .length) (empty-first e))
+
+  -- no bit depends on the keystream
+  pub none-same : (buf : List ℕ) (k l : ℕ → ℕ) → hasNoPiece p ≡ true → ciphered buf k p ≡ ciphered buf l p
+  none-same buf k l e =
+      let f = p .first in
+      let s = p .second in
+      rw (empty-first e, empty-second e)
+      (ap (λ (b : List ℕ). xored b k (s .start) (s .skip) 0) (xored-same buf k l (f .start) (f .skip) (f .skip) 0 (λ i h. absurd (omega (arith, h))))
+      ∙ xored-same (xored buf l (f .start) (f .skip) 0) k l (s .start) (s .skip) (s .skip) 0 (λ i h. absurd (omega (arith, h))))
 
   pub none-ciphered : (buf : List ℕ) (k : ℕ → ℕ) → Bytes buf → hasNoPiece p ≡ true → ciphered buf k p ≡ buf
   none-ciphered buf k small e =

@@ -3,7 +3,8 @@
 -- call sees of its table. Assumes nothing: these are definitions.
 use mathlib.Core.Bool.{Bool, not, _&&_}
 use mathlib.Core.List.{List}
-use Prim.Native.Nat.{ℕ, _*_}
+use mathlib.Core.Path.{_≡_}
+use Prim.Native.Nat.{ℕ, _*_, _≤_}
 use lib.Dec.{eqb, ltb, leb}
 use lib.ListN.{length}
 use Rattle.laws.specs.Choice.{pick}
@@ -13,12 +14,12 @@ use Rattle.slots.specs.declared.Slot.{Slot}
 use Rattle.slots.specs.Slots.{hasBad, slotAt}
 use Rattle.plan.specs.declared.Piece.{Piece}
 use Rattle.plan.specs.declared.Plan.{Plan}
-use Rattle.plan.specs.Plan.{planRefusal, planOf}
+use Rattle.plan.specs.Plan.{planRefusal, refused, planOf}
 use Rattle.span.specs.Span.{longestBuffer}
 use Rattle.keystream.specs.declared.Run.{Run}
-use Rattle.keystream.specs.Work.{throughRun, blocksOver}
+use Rattle.keystream.specs.Work.{throughRun, blocksOver, Fits, Later}
 use Rattle.ciphering.specs.Span.{Ciphered, cipheredAs}
-use Rattle.traffic.specs.Traffic.{useRefusalOf, slotStream}
+use Rattle.traffic.specs.Traffic.{useRefusalOf, slotStream, afterJudging}
 use Rattle.whole.specs.declared.Pdu.{Pdu}
 
 -- kind 2, DMAC-SYNC on SCH/H
@@ -63,19 +64,38 @@ hasNoPiece p = eqb (p .first .length) 0 && eqb (p .second .length) 0
 abbrev pub ciphered : List ℕ → (ℕ → ℕ) → Plan → List ℕ
 ciphered buf k p = throughRun (throughRun buf k (runOf (p .first))) k (runOf (p .second))
 
--- the buffer afterwards: each piece is xored with its part of the keystream; a refusal changes nothing
-unfoldable pub wholedOf : Bool → Slot → ℕ → ℕ → List ℕ → List ℕ → Pdu → List ℕ
-wholedOf bad slot direction number iv buf u =
-    pick (eqb (wholeRefusalOf bad slot direction number iv buf u) done) (ciphered buf (slotStream slot iv) (wholePlan buf u)) buf
-
 -- how many different blocks hold a bit that one of the pieces uses (document 02, [10])
 abbrev pub planBlocks : Plan → ℕ
 planBlocks p = blocksOver (runOf (p .first)) (runOf (p .second))
 
+-- all that a call with this refusal and these pieces answers: each piece is xored with its part of the keystream
+abbrev pub piecesAfter : ℕ → Plan → Slot → List ℕ → List ℕ → Ciphered
+piecesAfter refusal p slot iv buf = afterJudging refusal (ciphered buf (slotStream slot iv) p) buf (planBlocks p)
+
+-- the buffer afterwards; a refusal changes nothing
+unfoldable pub wholedOf : Bool → Slot → ℕ → ℕ → List ℕ → List ℕ → Pdu → List ℕ
+wholedOf bad slot direction number iv buf u = piecesAfter (wholeRefusalOf bad slot direction number iv buf u) (wholePlan buf u) slot iv buf .buffer
+
 -- the blocks reported
 unfoldable pub wholeBlocksOf : Bool → Slot → ℕ → ℕ → List ℕ → List ℕ → Pdu → ℕ
-wholeBlocksOf bad slot direction number iv buf u =
-    pick (eqb (wholeRefusalOf bad slot direction number iv buf u) done) (planBlocks (wholePlan buf u)) 0
+wholeBlocksOf bad slot direction number iv buf u = piecesAfter (wholeRefusalOf bad slot direction number iv buf u) (wholePlan buf u) slot iv buf .blocks
+
+-- the plan as the call is judged: a call that is refused before its plan has no piece
+unfoldable pub judgedPlan : Bool → Slot → ℕ → ℕ → List ℕ → List ℕ → Pdu → Plan
+judgedPlan bad slot direction number iv buf u =
+    pick (eqb (openRefusalOf bad slot direction number iv (length buf) (u .length)) done)
+    (wholePlan buf u)
+    (refused (openRefusalOf bad slot direction number iv (length buf) (u .length)))
+
+-- all that a call with this plan answers
+abbrev pub wholeAfter : Plan → Slot → List ℕ → List ℕ → Ciphered
+wholeAfter p slot iv buf = piecesAfter (p .refusal) p slot iv buf
+
+-- what the work needs of a plan that is not refused
+abbrev pub WholeMay : Plan → List ℕ → List ℕ → Type 0
+WholeMay p iv buf =
+    p .refusal ≡ done
+    → (length iv ≡ 10) × (length buf ≤ longestBuffer) × Fits buf (runOf (p .first)) × Fits buf (runOf (p .second)) × Later (runOf (p .first)) (runOf (p .second))
 
 -- all that the call answers
 abbrev pub wholeAnswerOf : Bool → Slot → ℕ → ℕ → List ℕ → List ℕ → Pdu → Ciphered

@@ -5,10 +5,14 @@ ghost use lib.ListN.{length};
 ghost use Rattle.span.specs.Span.{longestBuffer};
 ghost use Rattle.keystream.specs.Stream.{keystream};
 ghost use Rattle.keystream.specs.Work.{Fits, Later};
-ghost use Rattle.ciphering.specs.Span.{schedulesFor};
-ghost use Rattle.whole.specs.Whole.{flagOf, roomRefusal, openRefusalOf, wholePlan, runFrom, runOf, hasNoPiece, ciphered, planBlocks, wholeRefusalOf, wholedOf, wholeBlocksOf};
+ghost use mathlib.Core.Bool.{not};
+ghost use Rattle.slots.specs.Slots.{keyless};
+ghost use Rattle.slots.specs.Seen.{keySlot};
+ghost use Rattle.ciphering.specs.Span.{schedulesFor, cipheredAs};
+ghost use Rattle.whole.specs.Whole.{flagOf, roomRefusal, openRefusalOf, wholePlan, runFrom, runOf, hasNoPiece, ciphered, planBlocks, judgedPlan, WholeMay, wholeAfter};
 use ciphering::Report;
 use ciphering::lent::iv_of;
+use fields::Fields;
 use keystream::Run;
 use keystream::Tally;
 use plan::Piece;
@@ -71,21 +75,41 @@ fn room_refusal(size: usize, length: usize) -> u8
 // Refusals 16, 10, 7, 8, 12, 3, 13, 5, 6, in this order.
 fn open_refusal(
     bad: bool,
-    slot: Slot,
+    f: Fields,
     direction: u64,
     number: u64,
     iv: &[u8],
     size: usize,
     length: usize,
 ) -> u8
-    ensures { λ r. ⌜ r ≡ openRefusalOf bad slot direction number (now (iv .entry)) size length ⌝ }
+    ensures { λ r. ⌜ r ≡ openRefusalOf bad (keyless f) direction number (now (iv .entry)) size length ⌝ }
 {
-    let use_refusal = use_refusal(bad, slot, direction, number, iv);
+    let use_refusal = use_refusal(bad, f, direction, number, iv);
     refuse(
         use_refusal != refusals::DONE,
         use_refusal,
         room_refusal(size, length),
     )
+}
+
+// The plan of a call, by what its slot shows: no key is read to judge a call. Refusals 16, 10, 7, 8, 12, 3, 13, 5, 6, 18, 19, in this order; a call that is
+// refused has no piece.
+pub fn judged_plan(
+    bad: bool,
+    f: Fields,
+    direction: u64,
+    number: u64,
+    iv: &[u8],
+    buf: &[u8],
+    pdu: Pdu,
+) -> Plan
+    ensures { λ r. ⌜ r ≡ judgedPlan bad (keyless f) direction number (now (iv .entry)) (now (buf .entry)) pdu ⌝ }
+{
+    let open = open_refusal(bad, f, direction, number, iv, buf.len(), pdu.length);
+    if open != refusals::DONE {
+        return plan::refused(open);
+    }
+    plan_of(pdu, buf)
 }
 
 // The bits of a piece, with the keystream's from `skip` on.
@@ -107,6 +131,17 @@ fn has_no_piece(p: Plan) -> bool
     first.length == 0 && second.length == 0
 }
 
+// Whose key a call with this plan reads: the slot's of its number, and no slot's where there is no piece.
+pub fn key_slot(p: Plan, number: u64) -> u64
+    ensures { λ r. ⌜ r ≡ keySlot (not (hasNoPiece p)) number ⌝ }
+{
+    if has_no_piece(p) {
+        slots::NO_SLOT
+    } else {
+        number
+    }
+}
+
 // Each piece of a plan becomes itself xor its part of the keystream; every other bit stays. Where there is no piece, no schedule is filled.
 fn cipher_pieces(buf: &mut [u8], p: Plan, algorithm: u64, key: [u8; 24], iv: [u8; 10]) -> Tally
     requires { ⌜ (length (now buf) ≤ longestBuffer) × Fits (now buf) (runOf (p .first)) × Fits (now buf) (runOf (p .second)) × Later (runOf (p .first)) (runOf (p .second)) ⌝ }
@@ -122,26 +157,13 @@ fn cipher_pieces(buf: &mut [u8], p: Plan, algorithm: u64, key: [u8; 24], iv: [u8
     keystream::xor_runs(buf, first, second, algorithm, key, iv)
 }
 
-// Each piece of the PDU's plan becomes itself xor its part of the keystream; every other bit stays. Refusals 16, 10, 7, 8, 12, 3, 13, 5, 6, 18, 19,
-// in this order. Reports how many blocks were made.
-pub fn whole_of(
-    bad: bool,
-    slot: Slot,
-    direction: u64,
-    number: u64,
-    iv: &[u8],
-    buf: &mut [u8],
-    pdu: Pdu,
-) -> Report
-    ensures { λ r. ⌜ (r .refusal ≡ wholeRefusalOf bad slot direction number (now (iv .entry)) (now (buf .entry)) pdu)
-        × (r .blocks ≡ wholeBlocksOf bad slot direction number (now (iv .entry)) (now (buf .entry)) pdu)
-        × (now (buf .exit) ≡ wholedOf bad slot direction number (now (iv .entry)) (now (buf .entry)) pdu)
-        × (r .schedules ≡ schedulesFor (wholeBlocksOf bad slot direction number (now (iv .entry)) (now (buf .entry)) pdu)) ⌝ }
+// The work of a plan that was judged. Reports how many blocks were made. Where there is no piece, the slot's key has no say.
+pub fn whole_of(p: Plan, slot: Slot, iv: &[u8], buf: &mut [u8]) -> Report
+    requires { ⌜ WholeMay p (now iv) (now buf) ⌝ }
+    ensures { λ r. ⌜ (cipheredAs (r .refusal) (now (buf .exit)) (r .blocks) ≡ wholeAfter p slot (now (iv .entry)) (now (buf .entry)))
+        × (r .schedules ≡ schedulesFor (r .blocks)) ⌝ }
 {
-    let p = plan_of(pdu, &buf[..]);
-    let planned = p.refusal;
-    let open = open_refusal(bad, slot, direction, number, iv, buf.len(), pdu.length);
-    let refusal = refuse(open != refusals::DONE, open, planned);
+    let refusal = p.refusal;
     if refusal != refusals::DONE {
         return Report {
             refusal,

@@ -2,6 +2,7 @@
 use mathlib.Core.Path.{_≡_, sym, ap, _∙_}
 use borrow.Author.Needs.{needs}
 use Rattle.slots.specs.declared.Put.{Put}
+use Rattle.slots.specs.Slots.{keyless}
 use Rattle.slots.specs.Seen.{clearPut, changedBy}
 use Rattle.slots.proofs.AsSeen.{slot-there}
 use Rattle.slots.proofs.Puts.{clear-put}
@@ -16,8 +17,8 @@ returns c =
     let a = slot .before .before .args in
     c .put-to .ensures
     ∙ ap (changedBy (a .table) (a .number))
-    (put .clear-of .ensures ∙ (λ i. clearPut (slot .before .table-is-bad .ensures i) (slot .slot-or-empty .ensures i) (a .number)))
-    ∙ clear-put _ (a .table) (a .number) _ (slot-there _ (a .table) (a .number))
+    (put .clear-of .ensures ∙ (λ i. clearPut (slot .before .table-is-bad .ensures i) (keyless (slot .fields-or-none .ensures i)) (a .number)))
+    ∙ clear-put _ (a .table) (a .number) _ (slot-there (a .table) (a .number))
 
 pub clear-spec : {M : Type 1} → statement M
 clear-spec =

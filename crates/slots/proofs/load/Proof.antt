@@ -2,6 +2,7 @@
 use mathlib.Core.Path.{_≡_, sym, ap, _∙_}
 use borrow.Author.Needs.{needs}
 use Rattle.slots.specs.declared.Put.{Put}
+use Rattle.slots.specs.Slots.{keyless}
 use Rattle.slots.specs.Seen.{loadPut, changedBy}
 use Rattle.slots.proofs.AsSeen.{slot-there}
 use Rattle.slots.proofs.Puts.{load-put}
@@ -16,8 +17,8 @@ returns c =
     let a = slot .before .before .args in
     c .put-to .ensures
     ∙ ap (changedBy (a .table) (a .number))
-    (put .load-of .ensures ∙ (λ i. loadPut (slot .before .table-is-bad .ensures i) (slot .slot-or-empty .ensures i) (a .number) (a .asked) (a .key)))
-    ∙ load-put _ (a .table) (a .number) _ (slot-there _ (a .table) (a .number)) (a .asked) (a .key)
+    (put .load-of .ensures ∙ (λ i. loadPut (slot .before .table-is-bad .ensures i) (keyless (slot .fields-or-none .ensures i)) (a .number) (a .asked) (a .key)))
+    ∙ load-put _ (a .table) (a .number) _ (slot-there (a .table) (a .number)) (a .asked) (a .key)
 
 pub load-spec : {M : Type 1} → statement M
 load-spec =

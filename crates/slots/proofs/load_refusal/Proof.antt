@@ -21,7 +21,7 @@ returns c =
       three .refuse3 .ensures,
       two .refuse2 .ensures,
       one .refuse .ensures,
-      filled .is-filled .ensures,
+      filled .are-filled .ensures,
       known .is-algorithm .ensures,
       numbered .is-slot-number .ensures,
       rights .rights-refusal .ensures,

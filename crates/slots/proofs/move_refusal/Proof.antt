@@ -6,6 +6,7 @@ use borrow.Author.Needs.{needs}
 use Rattle.refusals.specs.Numbers.{slotNumberBad, tableBad, refuse}
 use Rattle.fields.specs.Fields.{isSlotNumber}
 use Rattle.slots.specs.Calls.{moveRefusalOf}
+use Rattle.slots.proofs.Tables.{keyless-empty}
 use Rattle.slots.proofs.move_refusal.Statement.{statement}
 use Rattle.slots.proofs.move_refusal.Tie as tie
 
@@ -30,10 +31,10 @@ returns c =
     let empty = filled .before in
     let to = empty .before in
     let from = to .before in
-    let a = from .before .before .args in
+    let a = from .before .args in
     rw (c .refuse7 .ensures, six .refuse6 .ensures, five .refuse5 .ensures, to .is-slot-number2 .ensures, from .is-slot-number .ensures)
     (one-rung (a .bad) (not (isSlotNumber (a .from))) (not (isSlotNumber (a .to))) (four .refuse4 .result)
-    ∙ rw (four .refuse4 .ensures, three .refuse3 .ensures, two .refuse2 .ensures, one .refuse .ensures, may .may-move .ensures, code .is-asked-use .ensures, filled .is-filled .ensures, empty .is-empty .ensures))
+    ∙ rw (four .refuse4 .ensures, three .refuse3 .ensures, two .refuse2 .ensures, one .refuse .ensures, may .may-move .ensures, code .is-asked-use .ensures, filled .are-filled .ensures, empty .is-no-fields .ensures, keyless-empty (a .f)))
 
 pub move-refusal-spec : {M : Type 1} → statement M
 move-refusal-spec =

@@ -1,6 +1,7 @@
 -- `slots::read`: by what is seen of the table. Assumes nothing.
 use mathlib.Core.Path.{_∙_}
 use borrow.Author.Needs.{needs}
+use Rattle.slots.specs.Slots.{keyless}
 use Rattle.slots.specs.Calls.{shownOf}
 use Rattle.slots.proofs.AsSeen.{slot-there, shown-seen}
 use Rattle.slots.proofs.read.Statement.{statement}
@@ -11,8 +12,8 @@ returns c =
     let slot = c .before in
     let a = slot .before .before .args in
     c .read-of .ensures
-    ∙ (λ i. shownOf (slot .before .table-is-bad .ensures i) (slot .slot-or-empty .ensures i) (a .number))
-    ∙ shown-seen _ (a .number) _ _ (slot-there _ (a .table) (a .number))
+    ∙ (λ i. shownOf (slot .before .table-is-bad .ensures i) (keyless (slot .fields-or-none .ensures i)) (a .number))
+    ∙ shown-seen _ (a .number) _ _ (slot-there (a .table) (a .number))
 
 pub read-spec : {M : Type 1} → statement M
 read-spec = tie.close (tie.spec (λ c κs. search needs) (λ c κs. search needs) (λ c κs. search needs) returns)

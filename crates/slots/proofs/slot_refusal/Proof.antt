@@ -1,6 +1,7 @@
 -- `slots::slot_refusal`: each test is the definition's, and so is their order. Assumes nothing.
 use borrow.Author.Needs.{needs}
 use Rattle.slots.specs.Calls.{slotRefusalOf}
+use Rattle.slots.proofs.Tables.{keyless-empty}
 use Rattle.slots.proofs.slot_refusal.Statement.{statement}
 use Rattle.slots.proofs.slot_refusal.Tie as tie
 
@@ -8,8 +9,8 @@ returns : tie.Need-returns
 unfolding slotRefusalOf
 returns c =
     let one = c .before in
-    let empty = one .before in
-    rw (c .refuse2 .ensures, one .refuse .ensures, empty .is-empty .ensures, empty .before .is-slot-number .ensures)
+    let none = one .before in
+    rw (c .refuse2 .ensures, one .refuse .ensures, none .is-no-fields .ensures, none .before .is-slot-number .ensures, keyless-empty (none .before .before .args .f))
 
 pub slot-refusal-spec : {M : Type 1} → statement M
 slot-refusal-spec = tie.close (tie.spec (λ c κs. search needs) (λ c κs. search needs) (λ c κs. search needs) (λ c κs. search needs) returns)

@@ -1,17 +1,19 @@
--- `card::table::card_load` meets its contract: a walk of its MIR, by hand. The borrow is lent to `is_no_table` and `slot_in` and comes back, `load_from` works on values and on the key behind its `&`, and the borrow goes to `put_slot` for good. There are two lifetimes, κ of t and λ of key.
+-- `card::table::card_load` meets its contract: a walk of its MIR, by hand. The borrow is lent to `is_no_table` and `fields_in` and comes back, `load_from` works on values and on the key behind its `&`, and the borrow goes to `put_slot` for good. There are two lifetimes, κ of t and λ of key.
 -- All that it knows of the four is that each meets its contract. Assumes nothing.
 use Rattle.walks.proofs.Walk.{_≡_, refl, ℕ, _<_, _^_, List, [], _∷_, length, URA, named, w8, w16, w64, Val, vint, vptr, SProp, ent, emp, via, fst∗, id⊢, Lft, GName, Share, ftrue, flft, Memory, Routine, Heap, Calls, Loops, WpFn, Tables, Atoms, Fun, givenOf, tables, tablesOf, Given, ‵, raw, _⊛_, ⋆, _$_, _∵_, !, qed, by, move, drop, use1, use2, split, join, fsplit, fjoin, suffices, frame, done, agg, whole, sub, look-in, look, init, forget, stop, hop, fld, from, load, addr, and-then, no-more, assigns, land, returns, enter, alloc1, alloc0, params1, pass1, pass0, free1, free0, FmC, fmOf, WpFn-mono, RattleType, owns, Array, Is, uint-makes, uint-lawful, uint-vals, uint-tells, u8, u16, u64, RefT, ShrRef, ptr-vals, shr-tells, MutSlice, Room, finally, slice-vals, mut-slice-tells, plainly, shrRefTo, owned, nothing, Vals, onEntry, Meets, tripleOf, Contract, Triple, entered, cited, says, Stays, gave-slice, stay-dropped, walkOf, goes-gave-slice, goes-dropped, ends-at, walked, walk-meets, yes}
 use denote.RattleType.{Denots, Valss}
 use Rattle.fields.specs.declared.Asked.{Asked}
 use Rattle.slots.specs.declared.Slot.{Slot}
+use Rattle.slots.specs.Slots.{keyless}
 use Rattle.slots.specs.Seen.{loadPut}
 use Rattle.card.specs.Faces.{asking}
-use Rattle.slot_list.specs.List.{isNoTable, slotIn}
+use Rattle.slot_list.specs.List.{isNoTable, fieldsIn}
 use Rattle.card.specs.Table.{loadedIn}
 use Rattle.walks.proofs.CallRules.{Of, calls-fn}
-use denote.Plain.{bool-lawful}
-use Rattle.slot_list.proofs.SlotLaws.{R, typed, res-typed}
-use Rattle.slot_list.proofs.SlotCalls.{IsNoTable, SlotIn, PutSlot, lent, slice, lends-ask, lends-take, puts-slot, with-seen}
+use denote.Builtin.{bool}
+use denote.Plain.{bool-makes, bool-lawful}
+use Rattle.slot_list.proofs.SlotLaws.{R, FieldsRow, fields-makes, fields-typed, res-typed}
+use Rattle.slot_list.proofs.SlotCalls.{IsNoTable, FieldsIn, PutSlot, lent, slice, lends-ask, lends-fields, puts-slot, with-seen}
 use Rattle.card.proofs.Answers.{changed-is}
 use Rattle.card.proofs.SeenTables.{loaded-in}
 use Rattle.card.proofs.table.load_from as core
@@ -21,9 +23,9 @@ use Rattle.card.proofs.table.load_from.Met as core-thm
 use Rattle.slot_list.proofs.is_no_table.Symbol as is-no-table-def
 use Rattle.slot_list.proofs.is_no_table.Symbol.{name as #is-no-table}
 use Rattle.slot_list.proofs.is_no_table.Met as is-no-table-thm
-use Rattle.slot_list.proofs.slot_in.Symbol as slot-in-def
-use Rattle.slot_list.proofs.slot_in.Symbol.{name as #slot-in}
-use Rattle.slot_list.proofs.slot_in.Met as slot-in-thm
+use Rattle.slot_list.proofs.fields_in.Symbol as fields-in-def
+use Rattle.slot_list.proofs.fields_in.Symbol.{name as #fields-in}
+use Rattle.slot_list.proofs.fields_in.Met as fields-in-thm
 use Rattle.slot_list.proofs.put_slot.Symbol as put-slot-def
 use Rattle.slot_list.proofs.put_slot.Symbol.{name as #put-slot}
 use Rattle.slot_list.proofs.put_slot.Met as put-slot-thm
@@ -75,9 +77,9 @@ module _ {M : Type 1} (𝓤 : URA M) (H : Heap 𝓤) (A : Atoms 𝓤) (W : Given
 
   -- what the core's triple binds outside
   abbrev to-core : Val → Val → Core 𝓤 H A mem run .Ghost
-  to-core v w = (((λ′, tt), (p, tt), tt, (isNoTable ys, (slotIn ys n, rest)), (v ∷ [], (w ∷ [], vals))), tt)
+  to-core v w = (((λ′, tt), (p, tt), tt, (isNoTable ys, (fieldsIn ys n, rest)), (v ∷ [], (w ∷ [], vals))), tt)
 
-  module _ (C : Calls 𝓤 H) (Λ : Loops 𝓤 H) (fm : FmC 𝓤 H (W .laws) C) (ask-met : Triple 𝓤 (C #is-no-table) (IsNoTable 𝓤 H A mem run)) (take-met : Triple 𝓤 (C #slot-in) (SlotIn 𝓤 H A mem run)) (core-met : Triple 𝓤 (C #core) (Core 𝓤 H A mem run)) (put-met : Triple 𝓤 (C #put-slot) (PutSlot 𝓤 H A mem run)) where
+  module _ (C : Calls 𝓤 H) (Λ : Loops 𝓤 H) (fm : FmC 𝓤 H (W .laws) C) (ask-met : Triple 𝓤 (C #is-no-table) (IsNoTable 𝓤 H A mem run)) (take-met : Triple 𝓤 (C #fields-in) (FieldsIn 𝓤 H A mem run)) (core-met : Triple 𝓤 (C #core) (Core 𝓤 H A mem run)) (put-met : Triple 𝓤 (C #put-slot) (PutSlot 𝓤 H A mem run)) where
     walk : ent 𝓤 (onEntry 𝓤 H A f.signature (κ, (λ′, tt)) (q, (p, tt)) x at) (WpFn 𝓤 H C Λ code.function passed Post)
     walk =
         qed W ((‵ (flft κ q) ⊛ (‵ (flft λ′ p) ⊛ ‵ ftrue)) ∷ ‵ (owns (MutSlice (named 0) κ R ∷ Rest) x at) ∷ []) ∵ enter ! C Λ code.function passed _ $
@@ -92,11 +94,11 @@ module _ {M : Type 1} (𝓤 : URA M) (H : Heap 𝓤) (A : Atoms 𝓤) (W : Given
         land ! (from ! (stop !)) (init ! 18 refl (bool-lawful 𝓤 H A W .typed (isNoTable ys) _ is .0)) $
         assigns ! (addr ! (from ! (fld ! refl (hop ! (look-in ! 40 (sub ! 0 refl (whole !))) (stop !))))) (from ! (stop !)) (init ! 10 refl (tt, tt)) $
         assigns ! (agg ! (and-then ! (load ! (from ! (stop !)) (look ! 10 refl)) (and-then ! (load ! (from ! (fld ! refl (stop !))) (look-in ! 40 (sub ! 1 refl (whole !)))) (no-more !)))) (from ! (stop !)) (init ! 8 refl (tt, (tt, (record { fits = room .0 }, tt)))) $
-        lends-take ! mem run b o ys κ q γ room n n-fits fm take-met (λ α ε. (and-then ! (load ! (from ! (stop !)) (look ! 9 refl)) (and-then ! (load ! (from ! (stop !)) (look ! 39 refl)) (no-more !)))) (λ w w-is.
-        land ! (from ! (stop !)) (init ! 12 refl (typed 𝓤 H A W (slotIn ys n) w w-is)) $
-        move ! (2 ∷ 3 ∷ []) $ use2 W (raw (Core 𝓤 H A mem run .pre (to-core v w))) (with-seen 𝓤 H A W λ′ p Rest rest vals (isNoTable ys) v is (slotIn ys n) w w-is) $
+        lends-fields ! mem run b o ys κ q γ room n n-fits fm take-met (λ α ε. (and-then ! (load ! (from ! (stop !)) (look ! 9 refl)) (and-then ! (load ! (from ! (stop !)) (look ! 39 refl)) (no-more !)))) (λ w w-is.
+        land ! (from ! (stop !)) (init ! 12 refl (fields-typed 𝓤 H A W (fieldsIn ys n) w w-is)) $
+        move ! (2 ∷ 3 ∷ []) $ use2 W (raw (Core 𝓤 H A mem run .pre (to-core v w))) (with-seen 𝓤 H A W λ′ p Rest rest vals bool (bool-makes 𝓤 H A W) (isNoTable ys) v is FieldsRow (fields-makes 𝓤 H A W) (fieldsIn ys n) w w-is (id⊢ 𝓤 (emp 𝓤))) $
         -- [what the core asks; what t owns; the token of κ; _19; …; _0; …]
-        calls-fn ! fm core.ended (core.clauses 𝓤 H A mem run) core-met (to-core v w) (λ c ws. c ≡ loadPut (isNoTable ys) (slotIn ys n) n a ks) (λ c ws. id⊢ 𝓤 _)
+        calls-fn ! fm core.ended (core.clauses 𝓤 H A mem run) core-met (to-core v w) (λ c ws. c ≡ loadPut (isNoTable ys) (keyless (fieldsIn ys n)) n a ks) (λ c ws. id⊢ 𝓤 _)
         (and-then ! (load ! (from ! (stop !)) (look ! 17 refl)) (and-then ! (load ! (from ! (stop !)) (look ! 11 refl)) (and-then ! (load ! (from ! (stop !)) (look ! 37 refl)) (and-then ! (load ! (from ! (stop !)) (look ! 35 refl)) (and-then ! (load ! (from ! (stop !)) (look ! 33 refl)) (and-then ! (load ! (from ! (stop !)) (look ! 31 refl)) (and-then ! (load ! (from ! (stop !)) (look ! 29 refl)) (and-then ! (load ! (from ! (stop !)) (look ! 27 refl)) (and-then ! (load ! (from ! (stop !)) (look ! 25 refl)) (and-then ! (load ! (from ! (stop !)) (look ! 23 refl)) (and-then ! (load ! (from ! (stop !)) (look ! 21 refl)) (no-more !)))))))))))) (λ u c ws e c-is.
         use1 W (‵ (flft λ′ p) ⊛ ‵ ftrue) (id⊢ 𝓤 _) $ move ! (1 ∷ []) $ drop ! $ move ! (1 ∷ 2 ∷ []) $
         -- [what t owns; the token of κ; the token of λ; _19; …; _0; …]
@@ -110,7 +112,7 @@ module _ {M : Type 1} (𝓤 : URA M) (H : Heap 𝓤) (A : Atoms 𝓤) (W : Given
         move ! (41 ∷ 42 ∷ []) $ free1 ! $ move ! (39 ∷ 40 ∷ []) $ free1 ! $ move ! (37 ∷ 38 ∷ []) $ free1 ! $ move ! (35 ∷ 36 ∷ []) $ free1 ! $ move ! (33 ∷ 34 ∷ []) $ free1 ! $ move ! (31 ∷ 32 ∷ []) $ free1 ! $ move ! (29 ∷ 30 ∷ []) $ free1 ! $ move ! (27 ∷ 28 ∷ []) $ free1 ! $ move ! (25 ∷ 26 ∷ []) $ free1 ! $ move ! (23 ∷ 24 ∷ []) $ free1 ! $ move ! (21 ∷ 22 ∷ []) $ free1 ! $ move ! (19 ∷ 20 ∷ []) $ free1 ! $ move ! (17 ∷ 18 ∷ []) $ free1 ! $ move ! (15 ∷ 16 ∷ []) $ free1 ! $ move ! (13 ∷ 14 ∷ []) $ free1 ! $ move ! (11 ∷ 12 ∷ []) $ free1 ! $ move ! (9 ∷ 10 ∷ []) $ free1 ! $ move ! (7 ∷ 8 ∷ []) $ free1 ! $ move ! (5 ∷ 6 ∷ []) $ free1 ! $ move ! (3 ∷ 4 ∷ []) $ free1 ! $ free0 ! $
         by ! (exits r m zs (loaded-in ys n a ks c e r zs s) l is′)))))))))))))))))))))))))
 
-module _ {M : Type 1} (𝓤 : URA M) (H : Heap 𝓤) (A : Atoms 𝓤) (W : Given 𝓤 H A) (mem : Memory → SProp 𝓤) (run : Routine → Fun 𝓤) (𝓣 : Tables 𝓤 H) (ask-met : Triple 𝓤 (𝓣 .C #is-no-table) (IsNoTable 𝓤 H A mem run)) (take-met : Triple 𝓤 (𝓣 .C #slot-in) (SlotIn 𝓤 H A mem run)) (core-met : Triple 𝓤 (𝓣 .C #core) (Core 𝓤 H A mem run)) (put-met : Triple 𝓤 (𝓣 .C #put-slot) (PutSlot 𝓤 H A mem run)) where
+module _ {M : Type 1} (𝓤 : URA M) (H : Heap 𝓤) (A : Atoms 𝓤) (W : Given 𝓤 H A) (mem : Memory → SProp 𝓤) (run : Routine → Fun 𝓤) (𝓣 : Tables 𝓤 H) (ask-met : Triple 𝓤 (𝓣 .C #is-no-table) (IsNoTable 𝓤 H A mem run)) (take-met : Triple 𝓤 (𝓣 .C #fields-in) (FieldsIn 𝓤 H A mem run)) (core-met : Triple 𝓤 (𝓣 .C #core) (Core 𝓤 H A mem run)) (put-met : Triple 𝓤 (𝓣 .C #put-slot) (PutSlot 𝓤 H A mem run)) where
   abbrev Run : Fun 𝓤
   Run = WpFn 𝓤 H (𝓣 .C) (𝓣 .Λ) code.function
 
@@ -145,6 +147,6 @@ card-load-spec 𝓤 H 𝓜 𝓖 𝓡 =
     (tables 𝓤 H 𝓜 𝓡 code.env .C) (tables 𝓤 H 𝓜 𝓡 code.env .Λ) #key code.function (code.unfolded 𝓤 H 𝓜 𝓡)
     (meets 𝓤 H (𝓖 .A) (givenOf 𝓤 H 𝓜 𝓖) (𝓜 .mem) (𝓡 .run) (tablesOf 𝓤 H 𝓜 (tables 𝓤 H 𝓜 𝓡 code.env))
     (cited 𝓤 H (IsNoTable 𝓤 H (𝓖 .A) (𝓜 .mem) (𝓡 .run)) 𝓜 𝓡 code.env #is-no-table is-no-table-def.routine code.calls-slot-list·is-no-table (is-no-table-thm.met 𝓤 H 𝓜 𝓖 𝓡))
-    (cited 𝓤 H (SlotIn 𝓤 H (𝓖 .A) (𝓜 .mem) (𝓡 .run)) 𝓜 𝓡 code.env #slot-in slot-in-def.routine code.calls-slot-list·slot-in (slot-in-thm.met 𝓤 H 𝓜 𝓖 𝓡))
+    (cited 𝓤 H (FieldsIn 𝓤 H (𝓖 .A) (𝓜 .mem) (𝓡 .run)) 𝓜 𝓡 code.env #fields-in fields-in-def.routine code.calls-slot-list·fields-in (fields-in-thm.met 𝓤 H 𝓜 𝓖 𝓡))
     (cited 𝓤 H (Core 𝓤 H (𝓖 .A) (𝓜 .mem) (𝓡 .run)) 𝓜 𝓡 code.env #core core-def.routine code.calls-card·table·load-from (core-thm.met 𝓤 H 𝓜 𝓖 𝓡))
     (cited 𝓤 H (PutSlot 𝓤 H (𝓖 .A) (𝓜 .mem) (𝓡 .run)) 𝓜 𝓡 code.env #put-slot put-slot-def.routine code.calls-slot-list·put-slot (put-slot-thm.met 𝓤 H 𝓜 𝓖 𝓡)))

@@ -1,17 +1,19 @@
--- `card::table::card_read` meets its contract: a walk of its MIR, by hand. `is_no_table` and `slot_in` look at the lent table where it lies, and `show_from` has what they saw and the eight places for the answer, for good. There are two lifetimes, κ of t and λ of the eight places.
+-- `card::table::card_read` meets its contract: a walk of its MIR, by hand. `is_no_table` and `fields_in` look at the lent table where it lies, and `show_from` has what they saw and the eight places for the answer, for good. There are two lifetimes, κ of t and λ of the eight places.
 -- All that it knows of the three is that each meets its contract. Assumes nothing.
 use Rattle.walks.proofs.Walk.{_≡_, refl, _∙_, ℕ, _<_, _^_, List, [], _∷_, length, URA, named, w8, w64, Val, vint, vptr, SProp, ent, emp, via, fst∗, id⊢, Lft, GName, Share, ftrue, flft, Memory, Routine, Heap, Calls, Loops, WpFn, Tables, Atoms, Fun, givenOf, tables, tablesOf, Given, Item, ‵, raw, _⊛_, ⋆, _$_, _∵_, !, qed, by, move, drop, use1, use2, split, join, fsplit, suffices, frame, done, look, init, forget, stop, hop, from, load, addr, and-then, no-more, assigns, land, returns, enter, alloc1, alloc0, params1, pass1, pass0, free1, free0, FmC, fmOf, WpFn-mono, RattleType, owns, Is, uint-makes, uint-lawful, uint-vals, uint-tells, u8, u16, u64, RefT, MutRef, ptr-vals, mut-tells, ShrSlice, Room, slice-vals, shr-slice-tells, plainly, shrSliceOf, owned, Vals, onEntry, Meets, tripleOf, lasts, Contract, Triple, entered, cited, says, Stays, gave-ref, stay-dropped, walkOf, goes-gave-ref, goes-dropped, ends-at, walked, walk-meets, yes}
 use denote.RattleType.{Denots, Valss}
 use denote.Triple.Clauses.{Lasts}
 use Rattle.slots.specs.declared.Slot.{Slot}
+use Rattle.slots.specs.Slots.{keyless}
 use Rattle.slots.specs.declared.Shown.{Shown}
 use Rattle.slots.specs.Calls.{shownOf}
-use Rattle.slot_list.specs.List.{isNoTable, slotIn}
+use Rattle.slot_list.specs.List.{isNoTable, fieldsIn}
 use Rattle.card.specs.Table.{shownAs, shownIn}
 use Rattle.walks.proofs.CallRules.{Of, calls-fn}
-use Rattle.slot_list.proofs.SlotLaws.{R, typed}
-use denote.Plain.{bool-lawful}
-use Rattle.slot_list.proofs.SlotCalls.{IsNoTable, SlotIn, lent, slice, asks-table, takes-slot, with-seen}
+use Rattle.slot_list.proofs.SlotLaws.{R, FieldsRow, fields-makes, fields-typed}
+use denote.Builtin.{bool}
+use denote.Plain.{bool-makes, bool-lawful}
+use Rattle.slot_list.proofs.SlotCalls.{IsNoTable, FieldsIn, lent, slice, asks-table, takes-fields, with-seen}
 use Rattle.card.proofs.SeenTables.{shown-in}
 use Rattle.card.proofs.table.show_from as core
 use Rattle.card.proofs.table.show_from.Symbol as core-def
@@ -20,9 +22,9 @@ use Rattle.card.proofs.table.show_from.Met as core-thm
 use Rattle.slot_list.proofs.is_no_table.Symbol as is-no-table-def
 use Rattle.slot_list.proofs.is_no_table.Symbol.{name as #is-no-table}
 use Rattle.slot_list.proofs.is_no_table.Met as is-no-table-thm
-use Rattle.slot_list.proofs.slot_in.Symbol as slot-in-def
-use Rattle.slot_list.proofs.slot_in.Symbol.{name as #slot-in}
-use Rattle.slot_list.proofs.slot_in.Met as slot-in-thm
+use Rattle.slot_list.proofs.fields_in.Symbol as fields-in-def
+use Rattle.slot_list.proofs.fields_in.Symbol.{name as #fields-in}
+use Rattle.slot_list.proofs.fields_in.Met as fields-in-thm
 use Rattle.card.proofs.table.card_read.Key.{name as #key}
 use Rattle.card.proofs.table.card_read as f
 use Rattle.card.proofs.table.card_read.Statement as stated
@@ -64,13 +66,13 @@ module _ {M : Type 1} (𝓤 : URA M) (H : Heap 𝓤) (A : Atoms 𝓤) (W : Given
 
   -- the last values of the core's parameters, and the answer that they are
   abbrev Ends : Type 0
-  Ends = Lasts core.ended (λ′, tt) (isNoTable ys, (slotIn ys n, rest))
+  Ends = Lasts core.ended (λ′, tt) (isNoTable ys, (fieldsIn ys n, rest))
 
   abbrev Shows : ℕ → Ends → Shown
   Shows r ws = shownAs r (ws .1 .1 .1 .0) (ws .1 .1 .1 .1 .0) (ws .1 .1 .1 .1 .1 .0) (ws .1 .1 .1 .1 .1 .1 .0) (ws .1 .1 .1 .1 .1 .1 .1 .0) (ws .1 .1 .1 .1 .1 .1 .1 .1 .0) (ws .1 .1 .1 .1 .1 .1 .1 .1 .1 .0) (ws .1 .1 .1 .1 .1 .1 .1 .1 .1 .1 .0)
 
   abbrev Has : Ends → List (Item 𝓤)
-  Has ws = (‵ (flft κ q) ⊛ (‵ (flft λ′ p) ⊛ ‵ ftrue)) ∷ ‵ (lasts core.ended (λ′, tt) (isNoTable ys, (slotIn ys n, rest)) ws) ∷ []
+  Has ws = (‵ (flft κ q) ⊛ (‵ (flft λ′ p) ⊛ ‵ ftrue)) ∷ ‵ (lasts core.ended (λ′, tt) (isNoTable ys, (fieldsIn ys n, rest)) ws) ∷ []
 
   exits : (r : ℕ) (w : Val) (ws : Ends) → Shows r ws ≡ shownIn ys n → Is u8 r (w ∷ []) → ent 𝓤 (⋆ 𝓤 H A (Has ws)) (Post w)
   exits r w ws e is =
@@ -80,9 +82,9 @@ module _ {M : Type 1} (𝓤 : URA M) (H : Heap 𝓤) (A : Atoms 𝓤) (W : Given
 
   -- what the core's triple binds outside
   abbrev to-core : Val → Val → Core 𝓤 H A mem run .Ghost
-  to-core v w = (((λ′, tt), (p, tt), tt, (isNoTable ys, (slotIn ys n, rest)), (v ∷ [], (w ∷ [], vals))), tt)
+  to-core v w = (((λ′, tt), (p, tt), tt, (isNoTable ys, (fieldsIn ys n, rest)), (v ∷ [], (w ∷ [], vals))), tt)
 
-  module _ (C : Calls 𝓤 H) (Λ : Loops 𝓤 H) (fm : FmC 𝓤 H (W .laws) C) (ask-met : Triple 𝓤 (C #is-no-table) (IsNoTable 𝓤 H A mem run)) (take-met : Triple 𝓤 (C #slot-in) (SlotIn 𝓤 H A mem run)) (core-met : Triple 𝓤 (C #core) (Core 𝓤 H A mem run)) where
+  module _ (C : Calls 𝓤 H) (Λ : Loops 𝓤 H) (fm : FmC 𝓤 H (W .laws) C) (ask-met : Triple 𝓤 (C #is-no-table) (IsNoTable 𝓤 H A mem run)) (take-met : Triple 𝓤 (C #fields-in) (FieldsIn 𝓤 H A mem run)) (core-met : Triple 𝓤 (C #core) (Core 𝓤 H A mem run)) where
     walk : ent 𝓤 (onEntry 𝓤 H A f.signature (κ, (λ′, tt)) (q, (p, tt)) x at) (WpFn 𝓤 H C Λ code.function passed Post)
     walk =
         qed W ((‵ (flft κ q) ⊛ (‵ (flft λ′ p) ⊛ ‵ ftrue)) ∷ ‵ (owns (ShrSlice (named 0) κ R ∷ Rest) x at) ∷ []) ∵ enter ! C Λ code.function passed _ $
@@ -94,8 +96,8 @@ module _ {M : Type 1} (𝓤 : URA M) (H : Heap 𝓤) (A : Atoms 𝓤) (W : Given
         asks-table ! mem run b o ys κ q γ fm ask-met (and-then ! (load ! (from ! (stop !)) (look ! 42 refl)) (no-more !)) (λ v is.
         -- [the token of κ; what t owns; the token of λ; what the others own; _20; …; _0; …]
         land ! (from ! (stop !)) (init ! 22 refl (bool-lawful 𝓤 H A W .typed (isNoTable ys) _ is .0)) $ move ! (1 ∷ 0 ∷ []) $
-        takes-slot ! mem run b o ys κ q γ n n-fits fm take-met (and-then ! (load ! (from ! (stop !)) (look ! 42 refl)) (and-then ! (load ! (from ! (stop !)) (look ! 40 refl)) (no-more !))) (λ w w-is.
-        land ! (from ! (stop !)) (init ! 20 refl (typed 𝓤 H A W (slotIn ys n) w w-is)) $ move ! (1 ∷ []) $ drop ! $
+        takes-fields ! mem run b o ys κ q γ n n-fits fm take-met (and-then ! (load ! (from ! (stop !)) (look ! 42 refl)) (and-then ! (load ! (from ! (stop !)) (look ! 40 refl)) (no-more !))) (λ w w-is.
+        land ! (from ! (stop !)) (init ! 20 refl (fields-typed 𝓤 H A W (fieldsIn ys n) w w-is)) $ move ! (1 ∷ []) $ drop ! $
         -- [the token of κ; the token of λ; what the others own; _20; …; _0; …]
         assigns ! (addr ! (from ! (hop ! (look ! 37 refl) (stop !)))) (from ! (stop !)) (init ! 17 refl (tt, tt)) $
         assigns ! (addr ! (from ! (hop ! (look ! 35 refl) (stop !)))) (from ! (stop !)) (init ! 15 refl (tt, tt)) $
@@ -105,9 +107,9 @@ module _ {M : Type 1} (𝓤 : URA M) (H : Heap 𝓤) (A : Atoms 𝓤) (W : Given
         assigns ! (addr ! (from ! (hop ! (look ! 27 refl) (stop !)))) (from ! (stop !)) (init ! 7 refl (tt, tt)) $
         assigns ! (addr ! (from ! (hop ! (look ! 25 refl) (stop !)))) (from ! (stop !)) (init ! 5 refl (tt, tt)) $
         assigns ! (addr ! (from ! (hop ! (look ! 23 refl) (stop !)))) (from ! (stop !)) (init ! 3 refl (tt, tt)) $
-        move ! (1 ∷ 2 ∷ []) $ use2 W (raw (Core 𝓤 H A mem run .pre (to-core v w))) (with-seen 𝓤 H A W λ′ p Rest rest vals (isNoTable ys) v is (slotIn ys n) w w-is) $
+        move ! (1 ∷ 2 ∷ []) $ use2 W (raw (Core 𝓤 H A mem run .pre (to-core v w))) (with-seen 𝓤 H A W λ′ p Rest rest vals bool (bool-makes 𝓤 H A W) (isNoTable ys) v is FieldsRow (fields-makes 𝓤 H A W) (fieldsIn ys n) w w-is (id⊢ 𝓤 (emp 𝓤))) $
         -- [what the core asks; the token of κ; _20; …; _0; …]
-        calls-fn ! fm core.ended (core.clauses 𝓤 H A mem run) core-met (to-core v w) (λ r ws. Shows r ws ≡ shownOf (isNoTable ys) (slotIn ys n) n) (λ r ws. id⊢ 𝓤 _)
+        calls-fn ! fm core.ended (core.clauses 𝓤 H A mem run) core-met (to-core v w) (λ r ws. Shows r ws ≡ shownOf (isNoTable ys) (keyless (fieldsIn ys n)) n) (λ r ws. id⊢ 𝓤 _)
         (and-then ! (load ! (from ! (stop !)) (look ! 20 refl)) (and-then ! (load ! (from ! (stop !)) (look ! 18 refl)) (and-then ! (load ! (from ! (stop !)) (look ! 38 refl)) (and-then ! (load ! (from ! (stop !)) (look ! 16 refl)) (and-then ! (load ! (from ! (stop !)) (look ! 14 refl)) (and-then ! (load ! (from ! (stop !)) (look ! 12 refl)) (and-then ! (load ! (from ! (stop !)) (look ! 10 refl)) (and-then ! (load ! (from ! (stop !)) (look ! 8 refl)) (and-then ! (load ! (from ! (stop !)) (look ! 6 refl)) (and-then ! (load ! (from ! (stop !)) (look ! 4 refl)) (and-then ! (load ! (from ! (stop !)) (look ! 2 refl)) (no-more !)))))))))))) (λ u r ws e is′.
         use1 W (‵ (flft λ′ p) ⊛ ‵ ftrue) (id⊢ 𝓤 _) $ move ! (2 ∷ 0 ∷ []) $ join ! $
         -- [the tokens; the last values; _20; …; _0; …]
@@ -116,7 +118,7 @@ module _ {M : Type 1} (𝓤 : URA M) (H : Heap 𝓤) (A : Atoms 𝓤) (W : Given
         move ! (42 ∷ 43 ∷ []) $ free1 ! $ move ! (40 ∷ 41 ∷ []) $ free1 ! $ move ! (38 ∷ 39 ∷ []) $ free1 ! $ move ! (36 ∷ 37 ∷ []) $ free1 ! $ move ! (34 ∷ 35 ∷ []) $ free1 ! $ move ! (32 ∷ 33 ∷ []) $ free1 ! $ move ! (30 ∷ 31 ∷ []) $ free1 ! $ move ! (28 ∷ 29 ∷ []) $ free1 ! $ move ! (26 ∷ 27 ∷ []) $ free1 ! $ move ! (24 ∷ 25 ∷ []) $ free1 ! $ move ! (22 ∷ 23 ∷ []) $ free1 ! $ move ! (20 ∷ 21 ∷ []) $ free1 ! $ move ! (18 ∷ 19 ∷ []) $ free1 ! $ move ! (16 ∷ 17 ∷ []) $ free1 ! $ move ! (14 ∷ 15 ∷ []) $ free1 ! $ move ! (12 ∷ 13 ∷ []) $ free1 ! $ move ! (10 ∷ 11 ∷ []) $ free1 ! $ move ! (8 ∷ 9 ∷ []) $ free1 ! $ move ! (6 ∷ 7 ∷ []) $ free1 ! $ move ! (4 ∷ 5 ∷ []) $ free1 ! $ move ! (2 ∷ 3 ∷ []) $ free1 ! $ free0 ! $
         by ! (exits r u ws (e ∙ shown-in ys n) is′)))))))))))))))))))))))))
 
-module _ {M : Type 1} (𝓤 : URA M) (H : Heap 𝓤) (A : Atoms 𝓤) (W : Given 𝓤 H A) (mem : Memory → SProp 𝓤) (run : Routine → Fun 𝓤) (𝓣 : Tables 𝓤 H) (ask-met : Triple 𝓤 (𝓣 .C #is-no-table) (IsNoTable 𝓤 H A mem run)) (take-met : Triple 𝓤 (𝓣 .C #slot-in) (SlotIn 𝓤 H A mem run)) (core-met : Triple 𝓤 (𝓣 .C #core) (Core 𝓤 H A mem run)) where
+module _ {M : Type 1} (𝓤 : URA M) (H : Heap 𝓤) (A : Atoms 𝓤) (W : Given 𝓤 H A) (mem : Memory → SProp 𝓤) (run : Routine → Fun 𝓤) (𝓣 : Tables 𝓤 H) (ask-met : Triple 𝓤 (𝓣 .C #is-no-table) (IsNoTable 𝓤 H A mem run)) (take-met : Triple 𝓤 (𝓣 .C #fields-in) (FieldsIn 𝓤 H A mem run)) (core-met : Triple 𝓤 (𝓣 .C #core) (Core 𝓤 H A mem run)) where
   abbrev Run : Fun 𝓤
   Run = WpFn 𝓤 H (𝓣 .C) (𝓣 .Λ) code.function
 
@@ -147,5 +149,5 @@ card-read-spec 𝓤 H 𝓜 𝓖 𝓡 =
     (tables 𝓤 H 𝓜 𝓡 code.env .C) (tables 𝓤 H 𝓜 𝓡 code.env .Λ) #key code.function (code.unfolded 𝓤 H 𝓜 𝓡)
     (meets 𝓤 H (𝓖 .A) (givenOf 𝓤 H 𝓜 𝓖) (𝓜 .mem) (𝓡 .run) (tablesOf 𝓤 H 𝓜 (tables 𝓤 H 𝓜 𝓡 code.env))
     (cited 𝓤 H (IsNoTable 𝓤 H (𝓖 .A) (𝓜 .mem) (𝓡 .run)) 𝓜 𝓡 code.env #is-no-table is-no-table-def.routine code.calls-slot-list·is-no-table (is-no-table-thm.met 𝓤 H 𝓜 𝓖 𝓡))
-    (cited 𝓤 H (SlotIn 𝓤 H (𝓖 .A) (𝓜 .mem) (𝓡 .run)) 𝓜 𝓡 code.env #slot-in slot-in-def.routine code.calls-slot-list·slot-in (slot-in-thm.met 𝓤 H 𝓜 𝓖 𝓡))
+    (cited 𝓤 H (FieldsIn 𝓤 H (𝓖 .A) (𝓜 .mem) (𝓡 .run)) 𝓜 𝓡 code.env #fields-in fields-in-def.routine code.calls-slot-list·fields-in (fields-in-thm.met 𝓤 H 𝓜 𝓖 𝓡))
     (cited 𝓤 H (Core 𝓤 H (𝓖 .A) (𝓜 .mem) (𝓡 .run)) 𝓜 𝓡 code.env #core core-def.routine code.calls-card·table·show-from (core-thm.met 𝓤 H 𝓜 𝓖 𝓡)))
