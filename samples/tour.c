@@ -20,7 +20,7 @@ int main(void) {
     uint16_t version, mcc, mnc;
     uint8_t algorithm, usage, side, place;
 
-    printf("load: %d\n", card_load(table, CARD_SLOTS, 3, 17, CARD_TEA6, CARD_FOR_SENDING, 0, 28, 262, 1001, key));
+    printf("load: %d\n", card_load(table, CARD_SLOTS, 3, 17, CARD_TEA7, CARD_FOR_SENDING, 0, 28, 262, 1001, key));
     printf("move: %d\n", card_move(table, CARD_SLOTS, 3, 9, CARD_KEEP));
     printf("move for both: %d\n", card_move(table, CARD_SLOTS, 9, 3, CARD_FOR_BOTH));
     printf("read: %d\n",

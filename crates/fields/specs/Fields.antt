@@ -1,7 +1,7 @@
 -- The ranges of a slot's fields (document 01, "Slots and rights"), and refusals 10, 11 and 20 in their order. Assumes nothing: these are definitions.
 use mathlib.Core.Bool.{Bool, _&&_, not}
 use Prim.Native.Nat.{ℕ}
-use lib.Dec.{leb}
+use lib.Dec.{leb, eqb}
 use Rattle.refusals.specs.Numbers.{done, codeUnknown, sideOrPlaceBad, networkBad, refuse}
 use Rattle.fields.specs.declared.Asked.{Asked}
 use Rattle.fields.specs.declared.Fields.{Fields}
@@ -14,6 +14,10 @@ isSlotNumber n = between 1 n 32
 
 abbrev pub isAlgorithm : ℕ → Bool
 isAlgorithm a = between 5 a 7
+
+-- TEA6 (document 02, [9]): no new key of it is loaded, and nothing is sent with one; a slot that holds one is a filled slot
+abbrev pub outOfService : ℕ → Bool
+outOfService a = eqb a 6
 
 -- 1 send, 2 receive, 3 both
 abbrev pub isUse : ℕ → Bool

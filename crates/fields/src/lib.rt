@@ -3,7 +3,7 @@ use refusals::refuse;
 ghost use mathlib.Core.Path.{_≡_};
 ghost use mathlib.Core.Bool.{true, _&&_};
 ghost use lib.Dec.{leb};
-ghost use Rattle.fields.specs.Fields.{between, isSlotNumber, isAlgorithm, isUse, rightsRefusal, allInRange, storedOf};
+ghost use Rattle.fields.specs.Fields.{between, isSlotNumber, isAlgorithm, outOfService, isUse, rightsRefusal, allInRange, storedOf};
 
 // As a slot holds them. Usage is 1 send, 2 receive, 3 both.
 #[repr(C)]
@@ -44,6 +44,13 @@ pub fn is_algorithm(a: u64) -> bool
     ensures { λ r. ⌜ r ≡ isAlgorithm a ⌝ }
 {
     lies_between(5, a, 7)
+}
+
+// TEA6 is loaded no more, and sends no more. A slot may hold it.
+pub fn is_out_of_service(a: u64) -> bool
+    ensures { λ r. ⌜ r ≡ outOfService a ⌝ }
+{
+    a == 6
 }
 
 pub fn is_use(u: u64) -> bool

@@ -87,6 +87,10 @@ pduPartsDontFit = 19
 abbrev pub networkBad : ℕ
 networkBad = 20
 
+-- algorithm out of service (document 02, [9])
+abbrev pub algorithmOutOfService : ℕ
+algorithmOutOfService = 21
+
 -- refused with the number where the test holds, else what comes later in the order
 abbrev pub refuse : Bool → ℕ → ℕ → ℕ
 refuse test number later = pick test number later

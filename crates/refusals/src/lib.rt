@@ -65,6 +65,9 @@ pub const PDU_PARTS: u8 = 19;
 // mobile country code above 1,023 or mobile network code above 16,383
 pub const NETWORK: u8 = 20;
 
+// algorithm out of service (document 02, [9])
+pub const OUT_OF_SERVICE: u8 = 21;
+
 // The number where the test holds, else what comes later in the order. An order of refusals is a value, and reads as in specs/.
 pub fn refuse(test: bool, number: u8, later: u8) -> u8
     ensures { λ r. ⌜ r ≡ numbers.refuse test number later ⌝ }

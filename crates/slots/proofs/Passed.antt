@@ -8,7 +8,7 @@ use lib.Dec.{lit<}
 use Rattle.laws.proofs.Cases.{and-left, unpicked, unpicked-own}
 use Rattle.refusals.specs.Numbers.{done}
 use Rattle.fields.specs.declared.Asked.{Asked}
-use Rattle.fields.specs.Fields.{isSlotNumber, isAlgorithm, rightsRefusal, allInRange}
+use Rattle.fields.specs.Fields.{isSlotNumber, isAlgorithm, outOfService, rightsRefusal, allInRange}
 use Rattle.slots.specs.declared.Slot.{Slot}
 use Rattle.slots.specs.Slots.{isEmpty, isFilled, hasBad, slotAt}
 use Rattle.slots.specs.Rights.{isAskedUse, staysWithin, mayMove}
@@ -18,6 +18,7 @@ use Rattle.slots.proofs.Tables.{in-range}
 pub record LoadPassedOf (bad : Bool) (slot : Slot) (number : ℕ) (a : Asked) : Type 0 where
   pub good : bad ≡ false
   pub numbered : isSlotNumber number ≡ true
+  pub serving : outOfService (a .algorithm) ≡ false
   pub ranges : allInRange a ≡ true
   pub free : isFilled slot ≡ false
 
@@ -27,11 +28,13 @@ load-passed-of bad slot number a e =
     let good = unpicked bad _ _ (lit< tt) e in
     let numbered = unpicked (not (isSlotNumber number)) _ _ (lit< tt) (good .1) in
     let known = unpicked (not (isAlgorithm (a .algorithm))) _ _ (lit< tt) (numbered .1) in
-    let right = unpicked-own (rightsRefusal a) _ (known .1) in
+    let serving = unpicked (outOfService (a .algorithm)) _ _ (lit< tt) (known .1) in
+    let right = unpicked-own (rightsRefusal a) _ (serving .1) in
     let free = unpicked (isFilled slot) _ _ (lit< tt) (right .1) in
     record {
       good = good .0;
       numbered = not-false (isSlotNumber number) (numbered .0);
+      serving = serving .0;
       ranges = in-range a ∙ rw (not-false (isAlgorithm (a .algorithm)) (known .0), right .0);
       free = free .0;
     }

@@ -6,25 +6,26 @@ use mathlib.Core.List.{List}
 use Prim.Native.Nat.{ℕ}
 use lib.Dec.{eqb}
 use Rattle.laws.specs.Choice.{pick}
-use Rattle.refusals.specs.Numbers.{done, algorithmUnknown, slotNumberBad, slotEmpty, targetFilled, codeUnknown, useNotWithin, tableBad, refuse}
+use Rattle.refusals.specs.Numbers.{done, algorithmUnknown, algorithmOutOfService, slotNumberBad, slotEmpty, targetFilled, codeUnknown, useNotWithin, tableBad, refuse}
 use Rattle.fields.specs.declared.Asked.{Asked}
 use Rattle.fields.specs.declared.Fields.{Fields}
-use Rattle.fields.specs.Fields.{isSlotNumber, isAlgorithm, rightsRefusal, storedOf}
+use Rattle.fields.specs.Fields.{isSlotNumber, isAlgorithm, outOfService, rightsRefusal, storedOf}
 use Rattle.slots.specs.declared.Slot.{Slot}
 use Rattle.slots.specs.declared.Changed.{Changed}
 use Rattle.slots.specs.declared.Shown.{Shown}
 use Rattle.slots.specs.Slots.{noFields, isEmpty, isFilled, hasBad, empty, slotAt, withSlot}
 use Rattle.slots.specs.Rights.{isAskedUse, movedUse, mayMove}
 
--- 16, 7, 1, 10, 11, 9
+-- 16, 7, 1, 21, 10, 11, 20, 9
 unfoldable pub loadRefusalOf : Bool → Slot → ℕ → Asked → ℕ
 loadRefusalOf bad slot number a =
     refuse bad tableBad
     (refuse (not (isSlotNumber number)) slotNumberBad
     (refuse (not (isAlgorithm (a .algorithm))) algorithmUnknown
+    (refuse (outOfService (a .algorithm)) algorithmOutOfService
     (refuse (not (eqb (rightsRefusal a) done)) (rightsRefusal a)
     (refuse (isFilled slot) targetFilled
-    done))))
+    done)))))
 
 -- 16, 7, 8, 9, 10, 14
 unfoldable pub moveRefusalOf : Bool → Slot → Slot → ℕ → ℕ → ℕ → ℕ

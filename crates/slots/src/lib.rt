@@ -244,10 +244,11 @@ fn is_asked_use(asked: u64) -> bool
 // Each call is judged by whether its table is bad and by the fields of its slots. No key is looked at: in a table without a bad slot,
 // a slot that shows nothing is empty.
 
-// Refusals 16, 7, 1, 10, 11, 20, 9, in this order.
+// Refusals 16, 7, 1, 21, 10, 11, 20, 9, in this order.
 fn load_refusal(bad: bool, f: Fields, number: u64, asked: Asked) -> u8
     ensures { λ r. ⌜ r ≡ loadRefusalOf bad (keyless f) number asked ⌝ }
 {
+    let out_of_service = fields::is_out_of_service(asked.algorithm);
     let rights = fields::rights_refusal(asked);
     refuse(
         bad,
@@ -259,9 +260,13 @@ fn load_refusal(bad: bool, f: Fields, number: u64, asked: Asked) -> u8
                 !fields::is_algorithm(asked.algorithm),
                 refusals::ALGORITHM,
                 refuse(
-                    rights != refusals::DONE,
-                    rights,
-                    refuse(are_filled(f), refusals::TARGET_FILLED, refusals::DONE),
+                    out_of_service,
+                    refusals::OUT_OF_SERVICE,
+                    refuse(
+                        rights != refusals::DONE,
+                        rights,
+                        refuse(are_filled(f), refusals::TARGET_FILLED, refusals::DONE),
+                    ),
                 ),
             ),
         ),

@@ -17,10 +17,10 @@ use Rattle.two_runs.specs.Card.{ourCard, step}
 use Rattle.two_runs.specs.Trace.{traced}
 use Rattle.two_runs.specs.Run.{startOf, next, run, stateAt, traceAt}
 
--- a key of TEA6 for sending only, with side 0 at place 28; and a key of TEA5 for both, with side 1 at place 0
+-- a key of TEA7 for sending only, with side 0 at place 28; and a key of TEA5 for both, with side 1 at place 0
 
 abbrev sendOnly : Asked
-sendOnly = record { version = 17; algorithm = 6; usage = 1; side = 0; place = 28; mcc = 262; mnc = 1001 }
+sendOnly = record { version = 17; algorithm = 7; usage = 1; side = 0; place = 28; mcc = 262; mnc = 1001 }
 
 abbrev both : Asked
 both = record { version = 4; algorithm = 5; usage = 3; side = 1; place = 0; mcc = 0; mnc = 0 }

@@ -7,24 +7,22 @@ use Rattle.slots.proofs.load_refusal.Tie as tie
 returns : tie.Need-returns
 unfolding loadRefusalOf
 returns c =
-    let four = c .before in
-    let three = four .before in
-    let two = three .before in
-    let one = two .before in
-    let filled = one .before in
-    let known = filled .before in
-    let numbered = known .before in
-    let rights = numbered .before in
+    let four = c .before .before in
+    let two = four .before .before in
+    let filled = two .before .before in
+    let numbered = filled .before .before in
     rw (
-      c .refuse5 .ensures,
+      c .refuse6 .ensures,
+      c .before .refuse5 .ensures,
       four .refuse4 .ensures,
-      three .refuse3 .ensures,
+      four .before .refuse3 .ensures,
       two .refuse2 .ensures,
-      one .refuse .ensures,
+      two .before .refuse .ensures,
       filled .are-filled .ensures,
-      known .is-algorithm .ensures,
+      filled .before .is-algorithm .ensures,
       numbered .is-slot-number .ensures,
-      rights .rights-refusal .ensures,
+      numbered .before .rights-refusal .ensures,
+      numbered .before .before .is-out-of-service .ensures,
     )
 
 pub load-refusal-spec : {M : Type 1} → statement M
@@ -32,4 +30,5 @@ load-refusal-spec =
     tie.close
     (tie.spec
     (λ c κs. search needs) (λ c κs. search needs) (λ c κs. search needs) (λ c κs. search needs) (λ c κs. search needs) (λ c κs. search needs)
-    (λ c κs. search needs) (λ c κs. search needs) (λ c κs. search needs) returns)
+    (λ c κs. search needs) (λ c κs. search needs) (λ c κs. search needs)
+    (λ c κs. search needs) (λ c κs. search needs) returns)
