@@ -12,7 +12,7 @@ use Rattle.slots.specs.Slots.{hasBad, slotAt}
 use Rattle.slots.specs.Rights.{isDirection, includes}
 use Rattle.slots.specs.Calls.{slotRefusalOf}
 use Rattle.slots.proofs.Passed.{SlotPassedOf, slot-passed-of}
-use Rattle.traffic.specs.Traffic.{onSide, useRefusalOf, trafficRefusalOf, TrafficMay, trafficRefusal}
+use Rattle.traffic.specs.Traffic.{onSide, sendsOutOfService, useRefusalOf, trafficRefusalOf, TrafficMay, trafficRefusal}
 use Rattle.ciphering.proofs.Passed.{SpanPassed, span-passed}
 
 -- a slot's key may be used in this direction with this initial value
@@ -21,6 +21,7 @@ pub record UsePassedOf (bad : Bool) (s : Slot) (direction number : ℕ) (iv : Li
   pub known : isDirection direction ≡ true
   pub slot : SlotPassedOf s number
   pub included : includes (s .fields .usage) direction ≡ true
+  pub serving : sendsOutOfService direction (s .fields) ≡ false
   pub iv-10 : length iv ≡ 10
   pub on-side : onSide direction (s .fields) iv ≡ true
 
@@ -31,13 +32,15 @@ use-passed-of bad s direction number iv e =
     let known = unpicked (not (isDirection direction)) 10 _ (lit< tt) (good .1) in
     let slot = unpicked-own (slotRefusalOf s number) _ (known .1) in
     let included = unpicked (not (includes (s .fields .usage) direction)) 12 _ (lit< tt) (slot .1) in
-    let ten = unpicked (not (eqb (length iv) 10)) 3 _ (lit< tt) (included .1) in
+    let serving = unpicked (sendsOutOfService direction (s .fields)) 21 _ (lit< tt) (included .1) in
+    let ten = unpicked (not (eqb (length iv) 10)) 3 _ (lit< tt) (serving .1) in
     let side = unpicked (not (onSide direction (s .fields) iv)) 13 _ (lit< tt) (ten .1) in
     record {
       good = good .0;
       known = not-false (isDirection direction) (known .0);
       slot = slot-passed-of s number (eqb-true (slotRefusalOf s number) 0 (slot .0));
       included = not-false (includes (s .fields .usage) direction) (included .0);
+      serving = serving .0;
       iv-10 = eqb-true (length iv) 10 (not-false (eqb (length iv) 10) (ten .0));
       on-side = not-false (onSide direction (s .fields) iv) (side .0);
     }

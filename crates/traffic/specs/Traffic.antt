@@ -1,7 +1,7 @@
 -- Traffic (document 01, "Slots and rights"): direction, slot number, IV, buffer, start bit, length and skip. The order of its refusals stands
 -- once, over what the call sees of its table: whether it is bad, and the slot of its number. What it answers then is said by the refusal, and by
 -- the key where it is done. Assumes nothing: these are definitions.
-use mathlib.Core.Bool.{Bool, not}
+use mathlib.Core.Bool.{Bool, _&&_, not}
 use mathlib.Core.List.{List}
 use mathlib.Core.Path.{_≡_}
 use Prim.Native.Nat.{ℕ}
@@ -9,8 +9,9 @@ use lib.Dec.{eqb}
 use lib.ListN.{length}
 use Rattle.laws.specs.Choice.{pick}
 use Rattle.laws.specs.Bits.{bitAt}
-use Rattle.refusals.specs.Numbers.{done, codeUnknown, directionNotInUse, ivNot10, ivSideWrong, tableBad, refuse}
+use Rattle.refusals.specs.Numbers.{done, codeUnknown, directionNotInUse, algorithmOutOfService, ivNot10, ivSideWrong, tableBad, refuse}
 use Rattle.fields.specs.declared.Fields.{Fields}
+use Rattle.fields.specs.Fields.{outOfService}
 use Rattle.slots.specs.declared.Slot.{Slot}
 use Rattle.slots.specs.Slots.{hasBad, slotAt}
 use Rattle.slots.specs.Rights.{isDirection, includes}
@@ -23,18 +24,23 @@ use Rattle.ciphering.specs.Span.{spanRefusal, Ciphered, cipheredAs}
 abbrev pub onSide : ℕ → Fields → List ℕ → Bool
 onSide direction f iv = pick (eqb direction 1) (eqb (bitAt iv (f .place)) (f .side)) (not (eqb (bitAt iv (f .place)) (f .side)))
 
--- whether a slot's key may be used so: 16, 10, 7, 8, 12, 3, 13
+-- a send with an algorithm that is out of service (document 02, [9]); a receive with it is none
+abbrev pub sendsOutOfService : ℕ → Fields → Bool
+sendsOutOfService direction f = eqb direction 1 && outOfService (f .algorithm)
+
+-- whether a slot's key may be used so: 16, 10, 7, 8, 12, 21, 3, 13
 unfoldable pub useRefusalOf : Bool → Slot → ℕ → ℕ → List ℕ → ℕ
 useRefusalOf bad slot direction number iv =
     refuse bad tableBad
     (refuse (not (isDirection direction)) codeUnknown
     (refuse (not (eqb (slotRefusalOf slot number) done)) (slotRefusalOf slot number)
     (refuse (not (includes (slot .fields .usage) direction)) directionNotInUse
+    (refuse (sendsOutOfService direction (slot .fields)) algorithmOutOfService
     (refuse (not (eqb (length iv) 10)) ivNot10
     (refuse (not (onSide direction (slot .fields) iv)) ivSideWrong
-    done)))))
+    done))))))
 
--- the order: 16, 10, 7, 8, 12, 3, 13, and then 5, 4, 6
+-- the order: 16, 10, 7, 8, 12, 21, 3, 13, and then 5, 4, 6
 unfoldable pub trafficRefusalOf : Bool → Slot → ℕ → ℕ → List ℕ → List ℕ → ℕ → ℕ → ℕ → ℕ
 trafficRefusalOf bad slot direction number iv buf start n skip =
     refuse (not (eqb (useRefusalOf bad slot direction number iv) done)) (useRefusalOf bad slot direction number iv)

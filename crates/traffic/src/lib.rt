@@ -3,7 +3,7 @@ ghost use mathlib.Core.Path.{_≡_};
 ghost use Rattle.laws.specs.Bits.{bitAt};
 ghost use Rattle.slots.specs.Slots.{keyless};
 ghost use Rattle.ciphering.specs.Span.{schedulesFor, cipheredAs};
-ghost use Rattle.traffic.specs.Traffic.{onSide, useRefusalOf, trafficRefusalOf, TrafficMay, trafficAfter};
+ghost use Rattle.traffic.specs.Traffic.{onSide, sendsOutOfService, useRefusalOf, trafficRefusalOf, TrafficMay, trafficAfter};
 use ciphering::Report;
 use ciphering::lent::iv_of;
 use ciphering::span_refusals::span_refusal;
@@ -37,11 +37,20 @@ fn on_side(direction: u64, f: Fields, iv: &[u8]) -> bool
     bit != f.side
 }
 
-// Refusals 16, 10, 7, 8, 12, 3, 13, in this order.
+// A send with an algorithm that is out of service. A receive with it is none.
+fn sends_out_of_service(direction: u64, f: Fields) -> bool
+    ensures { λ r. ⌜ r ≡ sendsOutOfService direction f ⌝ }
+{
+    direction == SEND && fields::is_out_of_service(f.algorithm as u64)
+}
+
+// Refusals 16, 10, 7, 8, 12, 21, 3, 13, in this order.
 pub fn use_refusal(bad: bool, f: Fields, direction: u64, number: u64, iv: &[u8]) -> u8
     ensures { λ r. ⌜ r ≡ useRefusalOf bad (keyless f) direction number (now (iv .entry)) ⌝ }
 {
     let slot_refusal = slots::slot_refusal(f, number);
+    let not_in_use = !slots::use_includes(f.usage, direction);
+    let out_of_service = sends_out_of_service(direction, f);
     refuse(
         bad,
         refusals::TABLE,
@@ -52,15 +61,19 @@ pub fn use_refusal(bad: bool, f: Fields, direction: u64, number: u64, iv: &[u8])
                 slot_refusal != refusals::DONE,
                 slot_refusal,
                 refuse(
-                    !slots::use_includes(f.usage, direction),
+                    not_in_use,
                     refusals::DIRECTION,
                     refuse(
-                        iv.len() != 10,
-                        refusals::IV_SIZE,
+                        out_of_service,
+                        refusals::OUT_OF_SERVICE,
                         refuse(
-                            !on_side(direction, f, iv),
-                            refusals::IV_SIDE,
-                            refusals::DONE,
+                            iv.len() != 10,
+                            refusals::IV_SIZE,
+                            refuse(
+                                !on_side(direction, f, iv),
+                                refusals::IV_SIDE,
+                                refusals::DONE,
+                            ),
                         ),
                     ),
                 ),
@@ -69,7 +82,7 @@ pub fn use_refusal(bad: bool, f: Fields, direction: u64, number: u64, iv: &[u8])
     )
 }
 
-// Refusals 16, 10, 7, 8, 12, 3, 13, 5, 4, 6, in this order, by what the slot shows: no key is read to judge a call.
+// Refusals 16, 10, 7, 8, 12, 21, 3, 13, 5, 4, 6, in this order, by what the slot shows: no key is read to judge a call.
 pub fn traffic_refusal(
     bad: bool,
     f: Fields,

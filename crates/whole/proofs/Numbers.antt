@@ -13,7 +13,7 @@ use Rattle.slots.specs.Rights.{isDirection, includes}
 use Rattle.slots.specs.Calls.{slotRefusalOf}
 use Rattle.span.specs.Span.{longestBuffer}
 use Rattle.plan.specs.Plan.{codesUnknown, partsDontFit, planRefusal}
-use Rattle.traffic.specs.Traffic.{onSide, useRefusalOf}
+use Rattle.traffic.specs.Traffic.{onSide, sendsOutOfService, useRefusalOf}
 use Rattle.whole.specs.declared.Pdu.{Pdu}
 use Rattle.whole.specs.Whole.{flagOf, roomRefusal, openRefusalOf, wholeRefusalOf}
 
@@ -22,7 +22,7 @@ listed x [] = false
 listed x (y ∷ l) = eqb x y || listed x l
 
 abbrev pub numbers : List ℕ
-numbers = 0 ∷ 16 ∷ 10 ∷ 7 ∷ 8 ∷ 12 ∷ 3 ∷ 13 ∷ 5 ∷ 6 ∷ 18 ∷ 19 ∷ []
+numbers = 0 ∷ 16 ∷ 10 ∷ 7 ∷ 8 ∷ 12 ∷ 21 ∷ 3 ∷ 13 ∷ 5 ∷ 6 ∷ 18 ∷ 19 ∷ []
 
 abbrev pub Known : ℕ → Type 0
 Known x = listed x numbers ≡ true
@@ -43,8 +43,10 @@ module _ (bad : Bool) (slot : Slot) (direction number : ℕ) (iv buf : List ℕ)
       (λ e.
       pick-cases Known (not (includes (slot .fields .usage) direction)) (λ e. refl)
       (λ e.
+      pick-cases Known (sendsOutOfService direction (slot .fields)) (λ e. refl)
+      (λ e.
       pick-cases Known (not (eqb (length iv) 10)) (λ e. refl)
-      (λ e. pick-cases Known (not (onSide direction (slot .fields) iv)) (λ e. refl) (λ e. refl))))))
+      (λ e. pick-cases Known (not (onSide direction (slot .fields) iv)) (λ e. refl) (λ e. refl)))))))
 
   room-known : Known (roomRefusal (length buf) (u .length))
   unfolding roomRefusal listed

@@ -37,13 +37,13 @@ wholePlan buf u = planOf (u .kind) (u .state) (flagOf u buf) (u .length) (u .add
 unfoldable pub roomRefusal : ℕ → ℕ → ℕ
 roomRefusal size l = refuse (ltb longestBuffer size) bufferLarge (refuse (ltb (8 * size) l) spanOutside done)
 
--- before the plan: 16, 10, 7, 8, 12, 3, 13, and then 5, 6
+-- before the plan: 16, 10, 7, 8, 12, 21, 3, 13, and then 5, 6
 unfoldable pub openRefusalOf : Bool → Slot → ℕ → ℕ → List ℕ → ℕ → ℕ → ℕ
 openRefusalOf bad slot direction number iv size l =
     refuse (not (eqb (useRefusalOf bad slot direction number iv) done)) (useRefusalOf bad slot direction number iv)
     (roomRefusal size l)
 
--- the order: 16, 10, 7, 8, 12, 3, 13, 5, 6, and then the plan's 18, 19
+-- the order: 16, 10, 7, 8, 12, 21, 3, 13, 5, 6, and then the plan's 18, 19
 unfoldable pub wholeRefusalOf : Bool → Slot → ℕ → ℕ → List ℕ → List ℕ → Pdu → ℕ
 wholeRefusalOf bad slot direction number iv buf u =
     refuse (not (eqb (openRefusalOf bad slot direction number iv (length buf) (u .length)) done))

@@ -72,7 +72,7 @@ fn room_refusal(size: usize, length: usize) -> u8
     refusals::DONE
 }
 
-// Refusals 16, 10, 7, 8, 12, 3, 13, 5, 6, in this order.
+// Refusals 16, 10, 7, 8, 12, 21, 3, 13, 5, 6, in this order.
 fn open_refusal(
     bad: bool,
     f: Fields,

@@ -7,31 +7,19 @@ use Rattle.traffic.proofs.use_refusal.Tie as tie
 returns : tie.Need-returns
 unfolding useRefusalOf
 returns c =
-    let five = c .before in
-    let four = five .before in
-    let three = four .before in
-    let two = three .before in
-    let one = two .before in
-    let side = one .before in
-    let included = side .before in
-    let known = included .before in
-    let slot = known .before in
-    rw (
-      c .refuse6 .ensures,
-      five .refuse5 .ensures,
-      four .refuse4 .ensures,
-      three .refuse3 .ensures,
-      two .refuse2 .ensures,
-      one .refuse .ensures,
-      side .on-side .ensures,
-      included .use-includes .ensures,
-      known .is-direction .ensures,
-      slot .slot-refusal .ensures,
-    )
+    let five = c .before .before in
+    let three = five .before .before in
+    let one = three .before .before in
+    let known = one .before .before in
+    let included = known .before .before in
+    rw (c .refuse7 .ensures, c .before .refuse6 .ensures, five .refuse5 .ensures, five .before .refuse4 .ensures)
+    (rw (three .refuse3 .ensures, three .before .refuse2 .ensures, one .refuse .ensures, one .before .on-side .ensures)
+    (rw (known .is-direction .ensures, known .before .sends-out-of-service .ensures, included .use-includes .ensures, included .before .slot-refusal .ensures)))
 
 pub use-refusal-spec : {M : Type 1} → statement M
 use-refusal-spec =
     tie.close
     (tie.spec
     (λ c κs. search needs) (λ c κs. search needs) (λ c κs. search needs) (λ c κs. search needs) (λ c κs. search needs)
-    (λ c κs. search needs) (λ c κs. search needs) (λ c κs. search needs) (λ c κs. search needs) (λ c κs. search needs) returns)
+    (λ c κs. search needs) (λ c κs. search needs) (λ c κs. search needs) (λ c κs. search needs) (λ c κs. search needs)
+    (λ c κs. search needs) (λ c κs. search needs) returns)
