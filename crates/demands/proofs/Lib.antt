@@ -1,2 +1,4 @@
 pub mod Refused
 pub mod Ciphered
+pub mod Service
+pub mod AnyAlgorithm

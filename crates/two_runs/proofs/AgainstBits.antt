@@ -23,7 +23,7 @@ use Rattle.two_runs.specs.Step.{Seen}
 use Rattle.two_runs.specs.Card.{Card, OfTraffic, step}
 use Rattle.two_runs.specs.Trace.{Trace, traced}
 use Rattle.two_runs.specs.Run.{next, run, stateAt}
-use Rattle.two_runs.specs.Demand.{MayDiffer, Demand3}
+use Rattle.two_runs.specs.Demand.{MayDiffer, Demand3FromEmpty}
 use Rattle.two_runs.proofs.Against.{writing, asked, slotOf, keyOf, zeros, used, byte}
 use Rattle.two_runs.proofs.AgainstRuns.{holding, loads, would-agree, bit-1-differs, sent-differs}
 
@@ -31,7 +31,7 @@ use Rattle.two_runs.proofs.AgainstRuns.{holding, loads, would-agree, bi
 abbrev pub xorsRefused : Card
 xorsRefused = writing (λ table direction. trafficked table 1)
 
-pub xors-refused : Demand3 xorsRefused → ⊥
+pub xors-refused : Demand3FromEmpty xorsRefused → ⊥
 unfolding step holding spanRefusal useRefusalOf trafficRefusalOf slotRefusalOf hasBad isBad isFilled isEmpty allZero bitAt bitOf
 xors-refused demand =
     ⊎-elim
@@ -60,7 +60,7 @@ next-bit key =
     ∙ xored-inside _ (stream-lt _) byte 0 0 2 1 (lit< tt) (lit< tt)
     ∙ xor-zero-l _
 
-pub next-key : Demand3 nextKey → ⊥
+pub next-key : Demand3FromEmpty nextKey → ⊥
 unfolding step run next stateAt traced loadRefusalOf hasBad isBad isFilled isEmpty allZero
 next-key demand =
     ⊎-elim
@@ -85,7 +85,7 @@ module _ (buffer : OfTraffic (List ℕ)) (start n skip j : ℕ) (out : spanOf (s
   abbrev bit : List ℕ → ℕ
   bit key = bitAt (buffer (holding key) 1 1 zeros byte start n skip) j
 
-  would-stay : Demand3 (writing buffer) → bit (keyOf 0) ≡ bit (keyOf 1)
+  would-stay : Demand3FromEmpty (writing buffer) → bit (keyOf 0) ≡ bit (keyOf 1)
   unfolding step
   would-stay demand =
       ⊎-elim (λ e. e) (λ m. absurd (true≢false (sym (inside-of m) ∙ out)))
@@ -99,7 +99,7 @@ wholeLast table direction number iv buf start n skip = trafficked table directio
 abbrev pub wholeLastBytes : Card
 wholeLastBytes = writing wholeLast
 
-pub whole-last-bytes : Demand3 wholeLastBytes → ⊥
+pub whole-last-bytes : Demand3FromEmpty wholeLastBytes → ⊥
 unfolding spanRefusal bitAt bitOf
 whole-last-bytes demand = sent-differs 0 8 0 1 refl (lit< tt) (lit< tt) refl refl (would-stay wholeLast 0 1 0 1 refl demand)
 
@@ -111,6 +111,6 @@ early table direction number iv buf start n skip = trafficked table direction nu
 abbrev pub beginsEarly : Card
 beginsEarly = writing early
 
-pub begins-early : Demand3 beginsEarly → ⊥
+pub begins-early : Demand3FromEmpty beginsEarly → ⊥
 unfolding spanRefusal bitAt bitOf
 begins-early demand = sent-differs 0 2 1 0 refl (lit< tt) (lit< tt) refl refl (would-stay early 1 1 1 0 refl demand)

@@ -24,7 +24,7 @@ use Rattle.whole.specs.declared.Pdu.{Pdu}
 use Rattle.whole.specs.Whole.{flagOf, roomRefusal, openRefusalOf, wholeRefusalOf, wholeRefusal, wholed}
 use Rattle.two_runs.specs.Calls.{pdu, traffic}
 use Rattle.two_runs.specs.Card.{Card, OfPdu, step}
-use Rattle.two_runs.specs.Demand.{Demand3}
+use Rattle.two_runs.specs.Demand.{Demand3FromEmpty}
 use Rattle.two_runs.proofs.Against.{writingPdu, keyOf, zeros, used}
 use Rattle.two_runs.proofs.AgainstRuns.{holding, loads, would-agree, may-send, bit-1-differs}
 use Rattle.two_runs.proofs.AgainstBits.{inside-of}
@@ -57,7 +57,7 @@ module _ (start n : ℕ) (fits : spanRefusal 4 start n 0 ≡ 0) (some : 1 < n) (
 abbrev pub betweenPieces : Card
 betweenPieces = writingPdu (λ table direction number iv buf u. trafficked table direction number iv buf (u .address + 23) 2 0)
 
-pub between-pieces : Demand3 betweenPieces → ⊥
+pub between-pieces : Demand3FromEmpty betweenPieces → ⊥
 unfolding step spanRefusal planOf planRefusal plannedPieces flagOf bitAt bitOf
 between-pieces demand =
     ⊎-elim
@@ -74,7 +74,7 @@ halfDone table direction number iv buf u =
 abbrev pub firstPieceOnly : Card
 firstPieceOnly = writingPdu halfDone
 
-pub first-piece-only : Demand3 firstPieceOnly → ⊥
+pub first-piece-only : Demand3FromEmpty firstPieceOnly → ⊥
 unfolding step holding spanRefusal wholeRefusalOf openRefusalOf roomRefusal useRefusalOf slotRefusalOf planRefusal flagOf hasBad isBad isFilled isEmpty allZero bitAt bitOf
 first-piece-only demand =
     ⊎-elim

@@ -23,7 +23,7 @@ use Rattle.two_runs.specs.Step.{told, changing}
 use Rattle.two_runs.specs.Card.{Card, step}
 use Rattle.two_runs.specs.Trace.{atStart, put, traced}
 use Rattle.two_runs.specs.Run.{State, startOf, next, run, stateAt}
-use Rattle.two_runs.specs.Demand.{Agree, Demand3}
+use Rattle.two_runs.specs.Demand.{Agree, Demand3FromEmpty}
 use Rattle.two_runs.proofs.Against.{asked, slotOf, keyOf, zeros, byte, allChosen}
 
 unfoldable pub holding : List ℕ → List Slot
@@ -49,7 +49,7 @@ module _ (card : Card) (loads : Loads card) where
   next-is key = rw (loads key)
 
   -- whatever two keys were loaded, what is seen of the call would agree
-  pub would-agree : Demand3 card → (c : Call) (key other : List ℕ) → Agree allChosen c (afterLoad key .trace) (step card (holding key) c .seen) (step card (holding other) c .seen)
+  pub would-agree : Demand3FromEmpty card → (c : Call) (key other : List ℕ) → Agree allChosen c (afterLoad key .trace) (step card (holding key) c .seen) (step card (holding other) c .seen)
   unfolding run stateAt
   would-agree demand c key other =
       subst-both (λ s t. Agree allChosen c (s .trace) (step card (s .table) c .seen) (step card (t .table) c .seen)) (next-is key) (next-is other)

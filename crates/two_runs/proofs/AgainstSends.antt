@@ -17,7 +17,7 @@ use Rattle.two_runs.specs.Calls.{span, Call, load, move, traffic, loadAt
 use Rattle.two_runs.specs.Card.{Card, OfTraffic, step}
 use Rattle.two_runs.specs.Trace.{traced}
 use Rattle.two_runs.specs.Run.{State, next, run, stateAt}
-use Rattle.two_runs.specs.Demand.{IsSend, Demand3}
+use Rattle.two_runs.specs.Demand.{IsSend, Demand3FromEmpty}
 use Rattle.two_runs.proofs.Against.{moving, refusing, asked, slotOf, keyOf, zeros, iv28, used, byte, noneChosen, forBoth, atPlace0}
 use Rattle.two_runs.proofs.AgainstRuns.{holding, loads, next-is, sent}
 
@@ -27,7 +27,7 @@ module _ (refusal : OfTraffic ℕ) (direction : ℕ) (iv : List ℕ) where
   abbrev call : Call
   call = traffic (used direction 1 iv) byte (span 0 1 0)
 
-  would-send : refusal (holding (keyOf 1)) direction 1 iv byte 0 1 0 ≡ done → Demand3 (refusing refusal) → IsSend (used direction 1 iv) (storedOf (asked 1))
+  would-send : refusal (holding (keyOf 1)) direction 1 iv byte 0 1 0 ≡ done → Demand3FromEmpty (refusing refusal) → IsSend (used direction 1 iv) (storedOf (asked 1))
   unfolding step run stateAt
   would-send accepted demand =
       let loaded = next-is (refusing refusal) loads (keyOf 1) in
@@ -51,7 +51,7 @@ asSend table direction = trafficRefusal table 1
 abbrev pub takesForSend : Card
 takesForSend = refusing asSend
 
-pub takes-for-send : Demand3 takesForSend → ⊥
+pub takes-for-send : Demand3FromEmpty takesForSend → ⊥
 unfolding spanRefusal
 takes-for-send demand = let e : _≡_ {A = ℕ} 2 1 = would-send asSend 2 zeros (sent (keyOf 1) 0 1 0 refl) demand .send in omega arith
 
@@ -65,7 +65,7 @@ ignoring table direction number iv buf start n skip =
 abbrev pub ignoresSide : Card
 ignoresSide = refusing ignoring
 
-pub ignores-side : Demand3 ignoresSide → ⊥
+pub ignores-side : Demand3FromEmpty ignoresSide → ⊥
 unfolding holding spanRefusal useRefusalOf trafficRefusalOf slotRefusalOf hasBad isBad isFilled isEmpty allZero bitAt bitOf
 ignores-side demand = let e : _≡_ {A = ℕ} 1 0 = would-send ignoring 1 iv28 refl demand .side in omega arith
 
@@ -77,7 +77,7 @@ padding table direction number iv = trafficRefusal table direction number (iv ++
 abbrev pub padsShort : Card
 padsShort = refusing padding
 
-pub pads-short : Demand3 padsShort → ⊥
+pub pads-short : Demand3FromEmpty padsShort → ⊥
 unfolding spanRefusal
 pads-short demand = let e : 28 < 8 * length {A = ℕ} [] = would-send padding 1 [] (sent (keyOf 1) 0 1 0 refl) demand .there in omega arith
 
@@ -85,7 +85,7 @@ pads-short demand = let e : 28 < 8 * length {A = ℕ} [] = would-send padding 1 
 
 module _ (f : Slot → Slot) (direction : ℕ) where
   would-send-moved : trafficRefusal (withSlot (withSlot (withSlot emptyTable 1 (slotOf 1 (keyOf 1))) 2 (f (slotOf 1 (keyOf 1)))) 1 empty) direction 2 iv28 byte 0 1 0 ≡ done
-      → Demand3 (moving f) → IsSend (used direction 2 iv28) (storedOf (asked 1))
+      → Demand3FromEmpty (moving f) → IsSend (used direction 2 iv28) (storedOf (asked 1))
   unfolding step run next stateAt traced loadRefusalOf moveRefusalOf hasBad isBad isFilled isEmpty allZero
   would-send-moved accepted demand =
       demand noneChosen (load 1 (asked 1) (keyOf 1) ∷ move 1 2 0 ∷ traffic (used direction 2 iv28) byte (span 0 1 0) ∷ []) _ (more (same _) (more (same _) (more (same _) end))) .sends 2
@@ -95,13 +95,13 @@ module _ (f : Slot → Slot) (direction : ℕ) where
 abbrev pub forgetsUse : Card
 forgetsUse = moving forBoth
 
-pub forgets-use : Demand3 forgetsUse → ⊥
+pub forgets-use : Demand3FromEmpty forgetsUse → ⊥
 unfolding spanRefusal useRefusalOf trafficRefusalOf slotRefusalOf hasBad isBad isFilled isEmpty allZero bitAt bitOf
 forgets-use demand = let e : _≡_ {A = ℕ} 2 1 = would-send-moved forBoth 2 refl demand .send in omega arith
 
 abbrev pub forgetsPlace : Card
 forgetsPlace = moving atPlace0
 
-pub forgets-place : Demand3 forgetsPlace → ⊥
+pub forgets-place : Demand3FromEmpty forgetsPlace → ⊥
 unfolding spanRefusal useRefusalOf trafficRefusalOf slotRefusalOf hasBad isBad isFilled isEmpty allZero bitAt bitOf
 forgets-place demand = let e : _≡_ {A = ℕ} 1 0 = would-send-moved atPlace0 1 refl demand .side in omega arith

@@ -13,7 +13,7 @@ use Rattle.ciphering.specs.Span.{spanRefusal}
 use Rattle.traffic.specs.Traffic.{trafficBlocksOf, trafficBlocks, trafficked}
 use Rattle.two_runs.specs.Calls.{span, read, traffic}
 use Rattle.two_runs.specs.Card.{Card, step}
-use Rattle.two_runs.specs.Demand.{Demand3}
+use Rattle.two_runs.specs.Demand.{Demand3FromEmpty}
 use Rattle.two_runs.proofs.Against.{showing, counting, writing, keyOf, keyByte, zeros, used, byte}
 use Rattle.two_runs.proofs.AgainstRuns.{holding, loads, would-agree, sent, sent-buffer}
 
@@ -21,7 +21,7 @@ use Rattle.two_runs.proofs.AgainstRuns.{holding, loads, would-agree, se
 abbrev pub showsKeyByte : Card
 showsKeyByte = showing (λ table number. record { refusal = shown table number .refusal; number = keyByte table number; fields = shown table number .fields })
 
-pub shows-key-byte : Demand3 showsKeyByte → ⊥
+pub shows-key-byte : Demand3FromEmpty showsKeyByte → ⊥
 unfolding step holding
 shows-key-byte demand =
     let e : _≡_ {A = ℕ} 0 1 = would-agree showsKeyByte loads demand (read 1) (keyOf 0) (keyOf 1) .number in
@@ -35,7 +35,7 @@ versioned version f = record { version = version; algorithm = f .algorithm; usag
 abbrev pub showsKeyInVersion : Card
 showsKeyInVersion = showing (λ table number. record { refusal = shown table number .refusal; number = number; fields = versioned (keyByte table number) (shown table number .fields) })
 
-pub shows-key-in-version : Demand3 showsKeyInVersion → ⊥
+pub shows-key-in-version : Demand3FromEmpty showsKeyInVersion → ⊥
 unfolding step holding
 shows-key-in-version demand =
     let e : _≡_ {A = ℕ} 0 1 = ap (λ (f : Fields). f .version) (would-agree showsKeyInVersion loads demand (read 1) (keyOf 0) (keyOf 1) .fields) in
@@ -49,7 +49,7 @@ counted : (b : ℕ) → spanRefusal 1 0 2 b ≡ 0 → trafficBlocks (holding (ke
 unfolding trafficBlocksOf
 counted b fits = rw (sent (keyOf b) 0 2 b fits)
 
-pub counts-by-key : Demand3 countsByKey → ⊥
+pub counts-by-key : Demand3FromEmpty countsByKey → ⊥
 unfolding step holding spanRefusal blocksUsed
 counts-by-key demand =
     let same = would-agree countsByKey loads demand (traffic (used 1 1 zeros) byte (span 0 2 0)) (keyOf 0) (keyOf 255) .blocks in
@@ -63,7 +63,7 @@ lengthensByKey = writing (λ table direction number iv buf start n skip. traffic
 lengthened : (b : ℕ) → spanRefusal 1 0 1 0 ≡ 0 → length (trafficked (holding (keyOf b)) 1 1 zeros byte 0 1 0 ++ replicate b 0) ≡ 1 + b
 lengthened b fits = rw (length-append, sent-buffer (keyOf b) 0 1 0 fits, length-xored byte (keystream 5 (keyOf b) zeros) 0 0 1, length-replicate {A = ℕ} b 0)
 
-pub lengthens-by-key : Demand3 lengthensByKey → ⊥
+pub lengthens-by-key : Demand3FromEmpty lengthensByKey → ⊥
 unfolding step holding spanRefusal
 lengthens-by-key demand =
     let same = would-agree lengthensByKey loads demand (traffic (used 1 1 zeros) byte (span 0 1 0)) (keyOf 0) (keyOf 1) .size in

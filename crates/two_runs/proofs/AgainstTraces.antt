@@ -16,7 +16,7 @@ use Rattle.two_runs.specs.Step.{reading}
 use Rattle.two_runs.specs.Card.{Card, step}
 use Rattle.two_runs.specs.Trace.{traced}
 use Rattle.two_runs.specs.Run.{next, stateAt}
-use Rattle.two_runs.specs.Demand.{Kept, Demand3}
+use Rattle.two_runs.specs.Demand.{Kept, Demand3FromEmpty}
 use Rattle.two_runs.proofs.Against.{loading, moving, clearing, asked, slotOf, made, keyOf, noneChosen, forBoth, atPlace0}
 
 -- a move that makes something else of a key for receiving
@@ -25,14 +25,14 @@ abbrev movingReceived : (Slot → Slot) → Card
 movingReceived f = moving (λ s. pick (eqb (s .fields .usage) 2) (f s) s)
 
 -- what it makes of it, in slot 32, would be what was loaded
-would-keep : (f : Slot → Slot) → Demand3 (movingReceived f) → Kept (slotOf 2 (keyOf 1)) (f (slotOf 2 (keyOf 1)))
+would-keep : (f : Slot → Slot) → Demand3FromEmpty (movingReceived f) → Kept (slotOf 2 (keyOf 1)) (f (slotOf 2 (keyOf 1)))
 unfolding step next stateAt traced loadRefusalOf moveRefusalOf hasBad isBad isFilled isEmpty allZero
 would-keep f demand = demand noneChosen (load 1 (asked 2) (keyOf 1) ∷ move 1 32 0 ∷ []) _ (more (same _) (more (same _) end)) .traces 2 32 refl
 
 abbrev pub widensUse : Card
 widensUse = movingReceived forBoth
 
-pub widens-use : Demand3 widensUse → ⊥
+pub widens-use : Demand3FromEmpty widensUse → ⊥
 widens-use demand = let e : false ≡ true = would-keep forBoth demand .usage in true≢false (sym e)
 
 abbrev ofVersion0 : Slot → Slot
@@ -41,7 +41,7 @@ ofVersion0 s = made 0 (s .fields .algorithm) (s .fields .usage) (s .fields .side
 abbrev pub losesVersion : Card
 losesVersion = movingReceived ofVersion0
 
-pub loses-version : Demand3 losesVersion → ⊥
+pub loses-version : Demand3FromEmpty losesVersion → ⊥
 loses-version demand = let e : _≡_ {A = ℕ} 0 7 = ap (λ (s : Slot). s .fields .version) (would-keep ofVersion0 demand .rest) in omega arith
 
 abbrev asTea6 : Slot → Slot
@@ -50,7 +50,7 @@ asTea6 s = made (s .fields .version) 6 (s .fields .usage) (s .fields .side) (s .
 abbrev pub losesAlgorithm : Card
 losesAlgorithm = movingReceived asTea6
 
-pub loses-algorithm : Demand3 losesAlgorithm → ⊥
+pub loses-algorithm : Demand3FromEmpty losesAlgorithm → ⊥
 loses-algorithm demand = let e : _≡_ {A = ℕ} 6 5 = ap (λ (s : Slot). s .fields .algorithm) (would-keep asTea6 demand .rest) in omega arith
 
 abbrev onSide1 : Slot → Slot
@@ -59,13 +59,13 @@ onSide1 s = made (s .fields .version) (s .fields .algorithm) (s .fields .usage) 
 abbrev pub losesSide : Card
 losesSide = movingReceived onSide1
 
-pub loses-side : Demand3 losesSide → ⊥
+pub loses-side : Demand3FromEmpty losesSide → ⊥
 loses-side demand = let e : _≡_ {A = ℕ} 1 0 = ap (λ (s : Slot). s .fields .side) (would-keep onSide1 demand .rest) in omega arith
 
 abbrev pub losesPlace : Card
 losesPlace = movingReceived atPlace0
 
-pub loses-place : Demand3 losesPlace → ⊥
+pub loses-place : Demand3FromEmpty losesPlace → ⊥
 loses-place demand = let e : _≡_ {A = ℕ} 0 28 = ap (λ (s : Slot). s .fields .place) (would-keep atPlace0 demand .rest) in omega arith
 
 abbrev withoutMcc : Slot → Slot
@@ -74,7 +74,7 @@ withoutMcc s = made (s .fields .version) (s .fields .algorithm) (s .fields .usag
 abbrev pub losesMcc : Card
 losesMcc = movingReceived withoutMcc
 
-pub loses-mcc : Demand3 losesMcc → ⊥
+pub loses-mcc : Demand3FromEmpty losesMcc → ⊥
 loses-mcc demand = let e : _≡_ {A = ℕ} 0 262 = ap (λ (s : Slot). s .fields .mcc) (would-keep withoutMcc demand .rest) in omega arith
 
 abbrev withoutMnc : Slot → Slot
@@ -83,7 +83,7 @@ withoutMnc s = made (s .fields .version) (s .fields .algorithm) (s .fields .usag
 abbrev pub losesMnc : Card
 losesMnc = movingReceived withoutMnc
 
-pub loses-mnc : Demand3 losesMnc → ⊥
+pub loses-mnc : Demand3FromEmpty losesMnc → ⊥
 loses-mnc demand = let e : _≡_ {A = ℕ} 0 1001 = ap (λ (s : Slot). s .fields .mnc) (would-keep withoutMnc demand .rest) in omega arith
 
 abbrev ofZeros : Slot → Slot
@@ -92,14 +92,14 @@ ofZeros s = made (s .fields .version) (s .fields .algorithm) (s .fields .usage) 
 abbrev pub losesKey : Card
 losesKey = movingReceived ofZeros
 
-pub loses-key : Demand3 losesKey → ⊥
+pub loses-key : Demand3FromEmpty losesKey → ⊥
 loses-key demand = let e : _≡_ {A = ℕ} 0 1 = ap (λ (s : Slot). getD (s .key) 0 0) (would-keep ofZeros demand .rest) in omega arith
 
 -- a clear that leaves a key of its own
 abbrev pub clearsToKey : Card
 clearsToKey = clearing (λ table number. answered (clearRefusal table number) table (withSlot table number (slotOf 3 (keyOf 2))))
 
-pub clears-to-key : Demand3 clearsToKey → ⊥
+pub clears-to-key : Demand3FromEmpty clearsToKey → ⊥
 unfolding step next stateAt traced loadRefusalOf clearRefusalOf slotRefusalOf hasBad isBad isFilled isEmpty allZero
 clears-to-key demand =
     let e : false ≡ true = demand noneChosen (load 1 (asked 1) (keyOf 1) ∷ clear 1 ∷ []) _ (more (same _) (more (same _) end)) .traces 2 1 refl in
@@ -111,7 +111,7 @@ readsOnce =
     let ours = loading loaded in
     record { load = ours .load; move = ours .move; clear = ours .clear; read = λ table number. reading (withSlot table number empty) (shown table number); traffic = ours .traffic }
 
-pub reads-once : Demand3 readsOnce → ⊥
+pub reads-once : Demand3FromEmpty readsOnce → ⊥
 unfolding step next stateAt traced loadRefusalOf clearRefusalOf slotRefusalOf hasBad isBad isFilled isEmpty allZero
 reads-once demand =
     let e : false ≡ true = demand noneChosen (load 1 (asked 1) (keyOf 1) ∷ read 1 ∷ []) _ (more (same _) (more (same _) end)) .traces 2 1 refl .usage in

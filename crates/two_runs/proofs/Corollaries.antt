@@ -9,7 +9,7 @@ use lib.ListN.{length}
 use Rattle.refusals.specs.Numbers.{done}
 use Rattle.fields.specs.Fields.{isSlotNumber}
 use Rattle.slots.specs.declared.Slot.{Slot}
-use Rattle.slots.specs.Slots.{emptyTable, slotAt, hasBad}
+use Rattle.slots.specs.Slots.{slotAt, hasBad}
 use Rattle.slots.specs.Rights.{within}
 use Rattle.slots.proofs.Passed.{SlotPassed}
 use Rattle.two_runs.specs.Calls.{Use, Work, Call, traffic, Origin, Twins, end, more, same, Starts}
@@ -18,11 +18,12 @@ use Rattle.two_runs.specs.Run.{callAt, seenAt, tableAt, traceAt}
 use Rattle.two_runs.specs.Demand.{Ciphers, given, Kept, Holds, Meets}
 use Rattle.two_runs.proofs.Facts.{our-facts}
 use Rattle.two_runs.proofs.Start.{itself}
-use Rattle.two_runs.proofs.Demand.{demand-3, demand-3-from, taken}
+use Rattle.two_runs.proofs.Demand.{demand-3, taken}
 
--- no refusal ever depends on a key byte: whatever keys stand at the loads of a list, the refusals are the same
-pub no-refusal-depends-on-a-key : (cs ds : List Call) → Twins (λ origin. true) 0 cs ds → (i : ℕ) → seenAt ourCard emptyTable cs i .refusal ≡ seenAt ourCard emptyTable ds i .refusal
-no-refusal-depends-on-a-key cs ds twins i = demand-3 (λ origin. true) cs ds twins .agree i .refusal
+-- no refusal ever depends on a key byte: whatever keys stand in the filled slots of a table and at the loads of a list, the refusals are the same
+pub no-refusal-depends-on-a-key : (a b : List Slot) → Starts (λ origin. true) a b → (cs ds : List Call) → Twins (λ origin. true) 0 cs ds → (i : ℕ)
+    → seenAt ourCard a cs i .refusal ≡ seenAt ourCard b ds i .refusal
+no-refusal-depends-on-a-key a b starts cs ds twins i = demand-3 (λ origin. true) a b starts cs ds twins .agree i .refusal
 
 -- a list and a table are their own twins, with nothing chosen
 
@@ -35,7 +36,7 @@ module _ (table : List Slot) (size : length table ≡ 32) (sound : hasBad table 
   alone-starts = record { size = size; sound = sound; twins = itself (λ origin. false) table }
 
   alone : Meets ourCard (λ origin. false) table table cs cs
-  alone = demand-3-from (λ origin. false) table table alone-starts cs cs (same-list cs)
+  alone = demand-3 (λ origin. false) table table alone-starts cs cs (same-list cs)
 
   -- a key given for sending only never gives an accepted receive, through any moves
   pub send-only-never-receives : (i : ℕ) (c : Ciphers (callAt cs i) (traceAt ourCard table cs i) (seenAt ourCard table cs i)) → given table cs (c .origin) .fields .usage ≡ 1 → c .how .direction ≡ 2 → ⊥
@@ -55,16 +56,23 @@ module _ (table : List Slot) (size : length table ≡ 32) (sound : hasBad table 
       go none h = absurd (true≢false (sym h ∙ used .there))
       go (some first) h = (first, refl)
 
+  -- a slot holds what its origin gave; with no origin, it is empty
+  pub slot-holds : (i number : ℕ) → isSlotNumber number ≡ true → Holds table cs (traceAt ourCard table cs i number) (slotAt (tableAt ourCard table cs i) number)
+  slot-holds = alone .traces
+
   -- a slot whose key has this origin, after any calls
   module _ (i number : ℕ) (origin : Origin) (numbered : isSlotNumber number ≡ true) (traced : traceAt ourCard table cs i number ≡ some origin) where
     abbrev slot : Slot
     slot = slotAt (tableAt ourCard table cs i) number
 
     kept : Kept (given table cs origin) slot
-    kept = rw traced at (alone .traces i number numbered)
+    kept = rw traced at (slot-holds i number numbered)
 
     pub use-never-widens : within (slot .fields .usage) (given table cs origin .fields .usage) ≡ true
     use-never-widens = kept .usage
+
+    pub algorithm-never-changes : slot .fields .algorithm ≡ given table cs origin .fields .algorithm
+    algorithm-never-changes = ap (λ (s : Slot). s .fields .algorithm) (kept .rest)
 
     pub side-never-changes : slot .fields .side ≡ given table cs origin .fields .side
     side-never-changes = ap (λ (s : Slot). s .fields .side) (kept .rest)

@@ -18,7 +18,7 @@ use Rattle.two_runs.specs.Calls.{Use, Work, Call, read, traffic, Origin,
 use Rattle.two_runs.specs.Step.{Seen}
 use Rattle.two_runs.specs.Card.{Card, step, ourCard}
 use Rattle.two_runs.specs.Run.{State, startOf, next, run, stateAt, callAt, seenIn, seenAt, tableAt, traceAt}
-use Rattle.two_runs.specs.Demand.{Ciphers, Agree, given, IsSend, Kept, Meets, Demand3, Demand3From}
+use Rattle.two_runs.specs.Demand.{Ciphers, Agree, given, IsSend, Kept, Meets, Demand3, Demand3FromEmpty}
 use Rattle.two_runs.proofs.Local.{Local}
 use Rattle.two_runs.proofs.Start.{empty-starts}
 use Rattle.two_runs.proofs.Related.{Related, related-start, related-next}
@@ -82,13 +82,13 @@ module _ (card : Card) (facts : Local card) (chosen : Origin → Bool) (a b : Li
   meets : Meets card chosen a b cs ds
   meets = record { agree = λ i. both i .agree; sends = sends-at; traces = λ i number h. both i .related .slots .at number h .holds }
 
-pub unwind : (card : Card) → Local card → Demand3From card
+pub unwind : (card : Card) → Local card → Demand3 card
 unwind = meets
 
--- from any table without a bad slot
-pub demand-3-from : Demand3From ourCard
-demand-3-from = unwind ourCard our-facts
-
--- the customer's sentence: from the empty table
+-- the customer's sentence, from any table without a bad slot
 pub demand-3 : Demand3 ourCard
-demand-3 chosen = demand-3-from chosen emptyTable emptyTable (empty-starts chosen)
+demand-3 = unwind ourCard our-facts
+
+-- from the empty table
+pub demand-3-from-empty : Demand3FromEmpty ourCard
+demand-3-from-empty chosen = demand-3 chosen emptyTable emptyTable (empty-starts chosen)

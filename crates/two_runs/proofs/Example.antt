@@ -1,4 +1,5 @@
--- The worked example of docs/DEMAND-3.md: two loads, a move, traffic, and what is seen of them whatever the two keys are. Assumes nothing.
+-- The worked examples of docs/DEMAND-3.md: two loads, a move, traffic, and what is seen of them whatever the two keys are; and the same of a key of
+-- TEA6 that is there at the start. Assumes nothing.
 use mathlib.Core.List.{List, [], _∷_, map}
 use mathlib.Core.Option.{some}
 use mathlib.Core.Path.{_≡_, refl}
@@ -6,12 +7,14 @@ use Prim.Native.Nat.{ℕ}
 use lib.ListN.{replicate}
 use Rattle.laws.specs.Bits.{bitOf, bitAt}
 use Rattle.fields.specs.declared.Asked.{Asked}
-use Rattle.slots.specs.Slots.{allZero, isEmpty, isFilled, isBad, hasBad, emptyTable}
+use Rattle.fields.specs.Fields.{storedOf}
+use Rattle.slots.specs.declared.Slot.{Slot}
+use Rattle.slots.specs.Slots.{allZero, isEmpty, isFilled, isBad, hasBad, emptyTable, withSlot}
 use Rattle.slots.specs.Calls.{loadRefusalOf, moveRefusalOf, slotRefusalOf, clearRefusalOf}
 use Rattle.span.specs.Span.{blocksUsed}
 use Rattle.ciphering.specs.Span.{spanRefusal}
 use Rattle.traffic.specs.Traffic.{useRefusalOf, trafficRefusalOf, trafficBlocksOf}
-use Rattle.two_runs.specs.Calls.{span, Call, load, move, clear, read, traffic, loadAt}
+use Rattle.two_runs.specs.Calls.{span, Call, load, move, clear, read, traffic, loadAt, present}
 use Rattle.two_runs.specs.Step.{Seen}
 use Rattle.two_runs.specs.Card.{ourCard, step}
 use Rattle.two_runs.specs.Trace.{traced}
@@ -63,3 +66,32 @@ module _ (key other : List ℕ) where
   pub origin : traceAt ourCard emptyTable (example key other) 5 3 ≡ some (loadAt 0)
   unfolding run next step stateAt traced loadRefusalOf moveRefusalOf slotRefusalOf clearRefusalOf useRefusalOf trafficRefusalOf spanRefusal hasBad isBad isFilled isEmpty allZero bitAt bitOf
   origin = refl
+
+-- a key of TEA6 for both, with side 0 at place 28, in slot 1: it cannot have been loaded by these calls
+
+abbrev outOfServiceKey : Asked
+outOfServiceKey = record { version = 3; algorithm = 6; usage = 3; side = 0; place = 28; mcc = 262; mnc = 1001 }
+
+abbrev pub stored : List ℕ → List Slot
+stored key = withSlot emptyTable 1 (record { fields = storedOf outOfServiceKey; key = key })
+
+abbrev pub later : List ℕ → List Call
+later other =
+    load 2 outOfServiceKey other
+    ∷ ciphered 1 1 (ivWith 0 0) 3 8 0
+    ∷ ciphered 2 1 (ivWith 0 8) 3 8 0
+    ∷ read 1
+    ∷ move 1 3 3
+    ∷ ciphered 2 3 (ivWith 0 8) 3 8 0
+    ∷ clear 3
+    ∷ []
+
+module _ (key other : List ℕ) where
+  pub later-refusals : map (λ (x : Seen). x .refusal) (run ourCard (startOf (stored key)) (later other)) ≡ 21 ∷ 21 ∷ 0 ∷ 0 ∷ 0 ∷ 0 ∷ 0 ∷ []
+  unfolding run next step traced loadRefusalOf moveRefusalOf slotRefusalOf clearRefusalOf useRefusalOf trafficRefusalOf spanRefusal hasBad isBad isFilled isEmpty allZero bitAt bitOf
+  later-refusals = refl
+
+  -- the key of the second receive, call 5, comes from slot 1 as it was at the start
+  pub later-origin : traceAt ourCard (stored key) (later other) 5 3 ≡ some (present 1)
+  unfolding run next step stateAt traced loadRefusalOf moveRefusalOf slotRefusalOf clearRefusalOf useRefusalOf trafficRefusalOf spanRefusal hasBad isBad isFilled isEmpty allZero bitAt bitOf
+  later-origin = refl

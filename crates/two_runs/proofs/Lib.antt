@@ -5,6 +5,7 @@ pub mod Related
 pub mod Agree
 pub mod Demand
 pub mod Corollaries
+pub mod Service
 pub mod Against
 pub mod AgainstAnswers
 pub mod AgainstRuns

@@ -16,8 +16,8 @@ use prog.Wp.{Heap}
 use Rattle.laws.proofs.Cases.{eq-or-ne}
 use Rattle.refusals.specs.Numbers.{done}
 use Rattle.slots.specs.declared.Slot.{Slot}
-use Rattle.slots.specs.Slots.{empty, emptyTable, slotAt, withSlot}
-use Rattle.two_runs.specs.Calls.{Call, load, move, clear, read, traffic, Origin, Twins}
+use Rattle.slots.specs.Slots.{empty, slotAt, withSlot}
+use Rattle.two_runs.specs.Calls.{Call, load, move, clear, read, traffic, Origin, Twins, Starts}
 use Rattle.two_runs.specs.Step.{Seen, Step}
 use Rattle.two_runs.specs.Card.{ourCard, step}
 use Rattle.two_runs.specs.Run.{State, startOf, next, run as runOf, stateAt, callAt, seenIn, traceAt}
@@ -25,6 +25,7 @@ use Rattle.two_runs.specs.Demand.{Agree}
 use Rattle.two_runs.proofs.Entries.{Entry, card-load, card-move, card-clear, card-read, card-traffic, card-pdu, before, called, left, promised, Steps, card-load-steps, card-move-steps, card-clear-steps, card-read-steps, card-traffic-steps, card-pdu-steps}
 use Rattle.two_runs.proofs.Local.{loadedSlot, Leaves}
 use Rattle.two_runs.proofs.Facts.{our-facts}
+use Rattle.two_runs.proofs.Start.{twins-size}
 use Rattle.two_runs.proofs.Demand.{demand-3}
 
 -- the records after i calls; each call is lent the records that the one before it left
@@ -121,16 +122,17 @@ module _ {M : Type 1} (𝓤 : URA M) (H : Heap 𝓤) (A : Atoms 𝓤) (mem : Mem
       (run-from (later s x xs here) (later-whole s x xs here whole) xs (subst (λ (t : List Slot). Follow t xs) (after s x xs here) (follow .1)))
       (fact-mono 𝓤 _ _ (λ r. run-more s x xs here r whole))))
 
-  -- on 32 empty records
-  pub entries-run : (xs : List Entry) → Follow emptyTable xs → ent 𝓤 (promises xs) (fact 𝓤 (IsRun (startOf emptyTable) xs))
-  entries-run = run-from (startOf emptyTable) refl
+  -- on any 32 records
+  pub entries-run : (t : List Slot) → length t ≡ 32 → (xs : List Entry) → Follow t xs → ent 𝓤 (promises xs) (fact 𝓤 (IsRun (startOf t) xs))
+  entries-run t = run-from (startOf t)
 
-  -- what C gets in two such sessions, whose calls are alike but for the keys of chosen loads, agrees as demand 3 says
-  pub entries-agree : (chosen : Origin → Bool) (xs ys : List Entry) → Follow emptyTable xs → Follow emptyTable ys → Twins chosen 0 (calledOf xs) (calledOf ys)
+  -- what C gets in two such sessions, on records without a bad slot and by calls that are alike but for chosen keys, agrees as demand 3 says
+  pub entries-agree : (chosen : Origin → Bool) (a b : List Slot) → Starts chosen a b → (xs ys : List Entry) → Follow a xs → Follow b ys
+      → Twins chosen 0 (calledOf xs) (calledOf ys)
       → ent 𝓤 (conj 𝓤 (promises xs) (promises ys))
-      (fact 𝓤 ((i : ℕ) → Agree chosen (callAt (calledOf xs) i) (traceAt ourCard emptyTable (calledOf xs) i) (seenIn (gotOf xs) i) (seenIn (gotOf ys) i)))
-  entries-agree chosen xs ys follow follow′ twins =
-      fact-use 𝓤 (IsRun (startOf emptyTable) xs) (via 𝓤 (promises xs) (conjL 𝓤 _ _) (entries-run xs follow))
+      (fact 𝓤 ((i : ℕ) → Agree chosen (callAt (calledOf xs) i) (traceAt ourCard a (calledOf xs) i) (seenIn (gotOf xs) i) (seenIn (gotOf ys) i)))
+  entries-agree chosen a b starts xs ys follow follow′ twins =
+      fact-use 𝓤 (IsRun (startOf a) xs) (via 𝓤 (promises xs) (conjL 𝓤 _ _) (entries-run a (starts .size) xs follow))
       (λ first.
-      fact-use 𝓤 (IsRun (startOf emptyTable) ys) (via 𝓤 (promises ys) (conjR 𝓤 _ _) (entries-run ys follow′))
-      (λ second. factI 𝓤 _ _ (λ i. rw (first .got, second .got) (demand-3 chosen (calledOf xs) (calledOf ys) twins .agree i))))
+      fact-use 𝓤 (IsRun (startOf b) ys) (via 𝓤 (promises ys) (conjR 𝓤 _ _) (entries-run b (twins-size chosen (starts .twins) ∙ starts .size) ys follow′))
+      (λ second. factI 𝓤 _ _ (λ i. rw (first .got, second .got) (demand-3 chosen a b starts (calledOf xs) (calledOf ys) twins .agree i))))

@@ -44,6 +44,22 @@ pub record Agree (chosen : Origin → Bool) (c : Call) (trace : Trace) (x y : Se
   pub size : length (x .buffer) ≡ length (y .buffer)
   pub bits : (j : ℕ) → (bitAt (x .buffer) j ≡ bitAt (y .buffer) j) ⊎ MayDiffer chosen c trace x j
 
+-- a slot, with another use
+abbrev pub withUse : Slot → ℕ → Slot
+withUse s usage = record {
+  fields =
+      record {
+        version = s .fields .version;
+        algorithm = s .fields .algorithm;
+        usage = usage;
+        side = s .fields .side;
+        place = s .fields .place;
+        mcc = s .fields .mcc;
+        mnc = s .fields .mnc;
+      };
+  key = s .key;
+}
+
 -- what a load gives; another call gives nothing, and is no key's origin
 abbrev pub loadedBy : Call → Slot
 loadedBy (load number a key) = record { fields = storedOf a; key = key }
@@ -63,22 +79,6 @@ pub record IsSend (how : Use) (f : Fields) : Type 0 where
   pub there : f .place < 8 * length (how .iv)
   pub side : bitAt (how .iv) (f .place) ≡ f .side
 
--- a slot, with another use
-abbrev pub withUse : Slot → ℕ → Slot
-withUse s usage = record {
-  fields =
-      record {
-        version = s .fields .version;
-        algorithm = s .fields .algorithm;
-        usage = usage;
-        side = s .fields .side;
-        place = s .fields .place;
-        mcc = s .fields .mcc;
-        mnc = s .fields .mnc;
-      };
-  key = s .key;
-}
-
 -- a slot holds what was given: a use within the given one, and all else as it was given
 pub record Kept (given s : Slot) : Type 0 where
   pub usage : within (s .fields .usage) (given .fields .usage) ≡ true
@@ -95,11 +95,12 @@ pub record Meets (card : Card) (chosen : Origin → Bool) (a b : List Slot) (cs 
   pub sends : (i : ℕ) (c : Ciphers (callAt cs i) (traceAt card a cs i) (seenAt card a cs i)) → given a cs (c .origin) .fields .usage ≡ 1 → IsSend (c .how) (given a cs (c .origin) .fields)
   pub traces : (i number : ℕ) → isSlotNumber number ≡ true → Holds a cs (traceAt card a cs i number) (slotAt (tableAt card a cs i) number)
 
--- from the empty table, for every list, every choice and every pair of keys
+-- from any table without a bad slot, for every list, every choice and every pair of keys; a key that is there already counts as a load of its present
+-- use (document 02, [9])
 abbrev pub Demand3 : Card → Type 0
-Demand3 card = (chosen : Origin → Bool) (cs ds : List Call) → Twins chosen 0 cs ds → Meets card chosen emptyTable emptyTable cs ds
-
--- the same from any table without a bad slot, where a key that is there already counts as a load of its present use
-abbrev pub Demand3From : Card → Type 0
-Demand3From card =
+Demand3 card =
     (chosen : Origin → Bool) (a b : List Slot) → Starts chosen a b → (cs ds : List Call) → Twins chosen 0 cs ds → Meets card chosen a b cs ds
+
+-- the same from the empty table, where no key is there
+abbrev pub Demand3FromEmpty : Card → Type 0
+Demand3FromEmpty card = (chosen : Origin → Bool) (cs ds : List Call) → Twins chosen 0 cs ds → Meets card chosen emptyTable emptyTable cs ds
