@@ -15,7 +15,7 @@ static uint8_t one_pdu(struct traffic *traffic, size_t *blocks)
 {
     struct input *input = &traffic->input;
 
-    return card_cipher_pdu(traffic->table, CARD_SLOTS, CARD_SEND, CARD_SLOTS, input->iv, input->iv_len, input->buf,
+    return card_cipher_pdu(traffic->table, CARD_SLOTS, CARD_RECEIVE, CARD_SLOTS, input->iv, input->iv_len, input->buf,
                            input->buf_len, parts, blocks);
 }
 
@@ -23,7 +23,7 @@ static uint8_t one_traffic(struct traffic *traffic, size_t start, size_t length,
 {
     struct input *input = &traffic->input;
 
-    return card_traffic(traffic->table, CARD_SLOTS, CARD_SEND, CARD_SLOTS, input->iv, input->iv_len, input->buf,
+    return card_traffic(traffic->table, CARD_SLOTS, CARD_RECEIVE, CARD_SLOTS, input->iv, input->iv_len, input->buf,
                         input->buf_len, start, length, skip, blocks);
 }
 

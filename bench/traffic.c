@@ -4,16 +4,18 @@
 
 enum { LAST_PLACE = 79 };
 
-/* Every slot has the key, and the side that lets it send with the initial value. The place is in its last byte: it may
-   change in all others. */
+/* Every slot has the key, and the side that lets it receive with the initial value: with any of the three algorithms, of which
+   TEA6 is neither loaded nor sent with. The place is in its last byte: it may change in all others. */
 static void fill_table(struct card_slot table[CARD_SLOTS], const struct input *input)
 {
-    uint8_t side = input->iv[LAST_PLACE / 8] & 1;
+    struct card_slot slot = {.algorithm = (uint8_t)input->algorithm, .usage = CARD_FOR_BOTH, .place = LAST_PLACE};
 
-    memset(table, 0, CARD_SLOTS * sizeof *table);
-    for (uint64_t number = 1; number <= CARD_SLOTS; number++)
-        card_load(table, CARD_SLOTS, number, (uint16_t)number, input->algorithm, CARD_FOR_BOTH, side,
-                  LAST_PLACE, 0, 0, input->key);
+    slot.side = !(input->iv[LAST_PLACE / 8] & 1);
+    memcpy(slot.key, input->key, CARD_KEY_BYTES);
+    for (int i = 0; i < CARD_SLOTS; i++) {
+        slot.version = (uint16_t)(i + 1);
+        table[i] = slot;
+    }
 }
 
 void traffic_taken(struct traffic *traffic, uint64_t *generator, uint64_t algorithm, size_t bits, int shift)
@@ -31,7 +33,7 @@ uint8_t traffic_call(struct traffic *traffic, size_t *blocks)
 {
     struct input *input = &traffic->input;
 
-    return card_traffic(traffic->table, CARD_SLOTS, CARD_SEND, CARD_SLOTS, input->iv, input->iv_len, input->buf,
+    return card_traffic(traffic->table, CARD_SLOTS, CARD_RECEIVE, CARD_SLOTS, input->iv, input->iv_len, input->buf,
                         input->buf_len, traffic->start, input->bits, traffic->skip, blocks);
 }
 

@@ -53,7 +53,8 @@ enum card_answer {
     CARD_RECORD_ROOM = 17,   /* record text longer than the buffer */
     CARD_PDU_CODE = 18,      /* PDU kind, state or flag unknown, or PDU above 8,288 bits */
     CARD_PDU_PARTS = 19,     /* PDU parts don't fit */
-    CARD_NETWORK = 20        /* mobile country code above 1,023 or mobile network code above 16,383 */
+    CARD_NETWORK = 20,       /* mobile country code above 1,023 or mobile network code above 16,383 */
+    CARD_OUT_OF_SERVICE = 21 /* algorithm out of service: a load of TEA6, or a send with it */
 };
 
 enum card_size {
@@ -66,6 +67,8 @@ enum card_size {
     CARD_LISTING_BYTES = 2560   /* room for every listing of a sheet */
 };
 
+/* TEA6 is out of service: no key of it is loaded, and none sends. A slot that holds one can receive, be read, moved and
+   cleared; its records are read and written, and card_bench has its keystream. */
 enum card_algorithm { CARD_TEA5 = 5, CARD_TEA6 = 6, CARD_TEA7 = 7 };
 
 /* What a key is for. 'Keep' is only for a move, of a key that isn't for both. */
@@ -113,7 +116,7 @@ _Static_assert(offsetof(struct card_slot, key) == 10, "its key starts at byte 10
  */
 
 /* Fills the empty slot `number`. The key is copied; it decides no refusal.
-   Refused: 16, 7, 1, 10, 11, 20, 9. */
+   Refused: 16, 7, 1, 21 (TEA6), 10, 11, 20, 9. */
 uint8_t card_load(struct card_slot *table, size_t slots, uint64_t number, uint16_t version, uint64_t algorithm,
                   uint64_t usage, uint64_t side, uint64_t place, uint64_t mcc, uint64_t mnc,
                   const uint8_t key[CARD_KEY_BYTES]);
@@ -136,7 +139,7 @@ uint8_t card_read(const struct card_slot *table, size_t slots, uint64_t number, 
 /* Ciphers: bit start_bit + i of the buffer becomes itself xor keystream bit skip_bits + i, for each i below length_bits,
    and every other bit stays. The same call again brings the buffer back. `blocks` becomes the number of keystream blocks,
    of 256 bits, in which a used bit lies. Start, length and skip may be any numbers: their sums never wrap.
-   Refused: 16, 10, 7, 8, 12, 3, 13, 5, 4, 6. */
+   Refused: 16, 10, 7, 8, 12, 21 (a send with TEA6), 3, 13, 5, 4, 6. */
 uint8_t card_traffic(const struct card_slot *table, size_t slots, uint64_t direction, uint64_t number,
                      const uint8_t *iv, size_t iv_bytes, uint8_t *buffer, size_t buffer_bytes, size_t start_bit,
                      size_t length_bits, size_t skip_bits, size_t *blocks);
@@ -146,7 +149,7 @@ uint8_t card_traffic(const struct card_slot *table, size_t slots, uint64_t direc
    otherwise. The same call again brings the PDU back. `blocks` becomes the number of different keystream blocks in which
    a used bit lies, also where two pieces share one; at most 33, and 0 where there is no piece. The buffer may be longer
    than the PDU; its bits from length_bits on stay. card_cipher_pdu, below, takes the PDU's parts by name.
-   Refused: 16, 10, 7, 8, 12, 3, 13, 5, 6 (length_bits above the buffer's bits), 18, 19. */
+   Refused: 16, 10, 7, 8, 12, 21 (a send with TEA6), 3, 13, 5, 6 (length_bits above the buffer's bits), 18, 19. */
 uint8_t card_pdu(const struct card_slot *table, size_t slots, uint64_t direction, uint64_t number, const uint8_t *iv,
                  size_t iv_bytes, uint8_t *buffer, size_t buffer_bytes, uint64_t kind, uint64_t state,
                  size_t length_bits, size_t address_bit, size_t sdu_bit, size_t *blocks);

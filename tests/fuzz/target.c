@@ -8,7 +8,7 @@
    with each answer and line, the length of a listing, the shifts of a span, a PDU's kind, state
    and flag, and the blocks. */
 static struct {
-    uint8_t answers[KINDS][21][11];
+    uint8_t answers[KINDS][22][11];
     uint8_t shifts[2][8][8];
     uint8_t blocks[4][34];
     uint8_t pdus[4][4][2];
@@ -33,7 +33,7 @@ static void count(const struct call *call, const struct outcome *outcome)
 {
     uint64_t line = call->kind == RECORD_READ ? outcome->numbers[9] : 0;
 
-    counters.answers[call->kind][said(call, outcome) % 21][line % 11]++;
+    counters.answers[call->kind][said(call, outcome) % 22][line % 11]++;
     if (call->kind == SLOTLIST)
         counters.listings[outcome->numbers[0] / 32 % 64]++;
     if (outcome->answer != CARD_DONE || row_of(call->kind) < 0)

@@ -153,19 +153,20 @@ static void read_as_written(const struct call *call, const struct table *table, 
              memcmp(back.key, call->key.at, CARD_KEY_BYTES) == 0);
 }
 
-/* Traffic with the bench's key on zero bits gives what the bench gives there. */
+/* Traffic with the bench's key on zero bits gives what the bench gives there; with TEA6 it is a receive. */
 static void bench_as_traffic(const struct call *call, const struct outcome *given)
 {
     static struct call traffic;
     static struct table table;
     static struct outcome sent;
+    int bit = call->iv.at[0] >= 0x80, receive = bit || call->algorithm == CARD_TEA6;
 
     table.slots = CARD_SLOTS;
-    table.at[0] = (struct card_slot){.algorithm = (uint8_t)call->algorithm, .usage = CARD_FOR_BOTH};
+    table.at[0] = (struct card_slot){.algorithm = (uint8_t)call->algorithm, .usage = CARD_FOR_BOTH, .side = receive && !bit};
     memcpy(table.at[0].key, call->key.at, CARD_KEY_BYTES);
     traffic.kind = TRAFFIC;
     traffic.number = 1;
-    traffic.direction = call->iv.at[0] < 0x80 ? CARD_SEND : CARD_RECEIVE;
+    traffic.direction = receive ? CARD_RECEIVE : CARD_SEND;
     traffic.length = call->length;
     bytes_copy(&traffic.iv, &call->iv);
     bytes_copy(&traffic.buffer, &call->buffer);

@@ -18,7 +18,7 @@ static void begin(enum kind kind)
 {
     memset(&table, 0, sizeof table);
     table.slots = CARD_SLOTS;
-    table.at[0] = (struct card_slot){.version = 1, .algorithm = CARD_TEA6, .usage = CARD_FOR_BOTH};
+    table.at[0] = (struct card_slot){.version = 1, .algorithm = CARD_TEA7, .usage = CARD_FOR_BOTH};
     memset(table.at[0].key, 0x3c, CARD_KEY_BYTES);
     memset(&call, 0, sizeof call);
     call = (struct call){.kind = kind, .number = 1, .to = 2, .asked = CARD_FOR_BOTH, .algorithm = CARD_TEA5,
@@ -147,6 +147,51 @@ static void every_pair_of_uses(void)
             call.asked = asked;
             make();
         }
+}
+
+/* Every algorithm, good and bad, in a slot and in a load; of a slot every use and direction, an initial value of either side
+   and of either length, and a span or a PDU that is good or not. */
+static void every_algorithm(void)
+{
+    for (int i = 0; i < 2 * 10 * 3 * 4 * 2 * 2 * 2; i++) {
+        begin(i % 2 == 0 ? TRAFFIC : PDU);
+        table.at[0].algorithm = (uint8_t)(i / 2 % 10);
+        table.at[0].usage = (uint8_t)(CARD_FOR_SENDING + i / 20 % 3);
+        call.direction = (uint64_t)(i / 60 % 4);
+        call.iv.at[0] = i / 240 % 2 == 0 ? 0 : 0x80;
+        call.iv.count = CARD_IV_BYTES - (size_t)(i / 480 % 2);
+        call.length = i / 960 % 2 == 0 ? 9 : 17;
+        make();
+    }
+    for (int i = 0; i < 12 * 5 * 3 * 3; i++) {
+        static const uint64_t algorithms[] = {0, 4, 5, 6, 7, 8, 22, 70, 0x106, 0x10006, 0x100000006, UINT64_MAX};
+
+        begin(LOAD);
+        call.algorithm = algorithms[i % 12];
+        call.usage = (uint64_t)(i / 12 % 5);
+        call.place = (uint64_t)(78 + i / 60 % 3);
+        call.number = (uint64_t)(i / 180 % 3);
+        make();
+    }
+}
+
+/* A slot with TEA6 beside another: each call that works on it, and on the one beside it. */
+static void every_call_beside_tea6(void)
+{
+    static const enum kind kinds[] = {LOAD, MOVE, CLEAR, READ, TRAFFIC, PDU};
+
+    for (size_t k = 0; k < sizeof kinds / sizeof kinds[0]; k++)
+        for (uint64_t number = 1; number <= 3; number++)
+            for (uint64_t direction = CARD_SEND; direction <= CARD_RECEIVE; direction++) {
+                begin(kinds[k]);
+                table.at[1] = table.at[0];
+                table.at[1].algorithm = CARD_TEA6;
+                call.number = number;
+                call.to = 4;
+                call.direction = direction;
+                call.iv.at[0] = direction == CARD_SEND ? 0 : 0x80;
+                make();
+            }
 }
 
 static const char shortest[] = "number=1\nversion=0\nalg=TEA5\nuse=SEND\nside=0\nplace=0\n"
@@ -302,6 +347,8 @@ unsigned long every_run(uint64_t seed)
     every_number_of_slots();
     every_byte_of_a_slot();
     every_pair_of_uses();
+    every_algorithm();
+    every_call_beside_tea6();
     every_plan();
     every_plan_code();
     every_pdu();

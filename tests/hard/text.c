@@ -41,7 +41,8 @@ static void add_line(const char *name, const char *format, ...)
     va_end(values);
 }
 
-static void add_record(struct source *source, uint64_t number)
+/* A record; where its key is to be loaded, with an algorithm that is in service. */
+static void add_record(struct source *source, uint64_t number, int in_service)
 {
     static const char *const uses[] = {"SEND", "RECV", "BOTH"};
     static struct bytes key;
@@ -52,7 +53,7 @@ static void add_record(struct source *source, uint64_t number)
         add_line("form", "2");
     add_line("number", "%d", (int)number);
     add_line("version", "%d", choose_version(source));
-    add_line("alg", "TEA%d", 5 + source_byte(source) % 3);
+    add_line("alg", "TEA%d", in_service ? 5 + source_byte(source) % 2 * 2 : 5 + source_byte(source) % 3);
     add_line("use", "%s", PICK(source, uses));
     add_line("side", "%d", source_byte(source) % 2);
     add_line("place", "%d", source_byte(source) % 80);
@@ -305,7 +306,7 @@ static void add_what_follows(struct source *source, struct bytes *text)
     switch (source_byte(source) % 8) {
     case 1:
         line_count = 0;
-        add_record(source, 1 + source_byte(source) % 32);
+        add_record(source, 1 + source_byte(source) % 32, 0);
         join_lines(&follows);
         break;
     case 2:
@@ -322,7 +323,7 @@ void text_record(struct source *source, struct bytes *text)
     if (raw_text(source, text))
         return;
     line_count = 0;
-    add_record(source, 1 + source_byte(source) % 32);
+    add_record(source, 1 + source_byte(source) % 32, 0);
     damaged_text(source, text);
     add_what_follows(source, text);
 }
@@ -356,6 +357,6 @@ void text_sheet(struct source *source, struct bytes *text)
     sheet_numbers(&records, numbers);
     line_count = 0;
     for (size_t i = 0; i < count; i++)
-        add_record(&records, numbers[i % CARD_SLOTS]);
+        add_record(&records, numbers[i % CARD_SLOTS], way % 4 != 2);
     damaged_text(source, text);
 }

@@ -20,6 +20,12 @@ static uint8_t algorithm, usage, side, place;
 static size_t text_bytes, sheet_bytes;
 static struct card_pdu_parts pdu;
 
+/* The algorithm of a key that is loaded: TEA6 is out of service. */
+static uint8_t served(void)
+{
+    return algorithm == CARD_TEA6 ? CARD_TEA7 : algorithm;
+}
+
 static void random_bytes(uint64_t *generator, uint8_t *bytes, size_t count)
 {
     for (size_t i = 0; i < count; i++)
@@ -29,7 +35,7 @@ static void random_bytes(uint64_t *generator, uint8_t *bytes, size_t count)
 static uint8_t make_load(void)
 {
     memset(&table[number - 1], 0, sizeof table[0]);
-    return card_load(table, CARD_SLOTS, number, 1, algorithm, CARD_FOR_BOTH, 0, PLACE, 0, 0, key);
+    return card_load(table, CARD_SLOTS, number, 1, served(), CARD_FOR_BOTH, 0, PLACE, 0, 0, key);
 }
 
 static uint8_t make_move(void)
@@ -91,7 +97,12 @@ static uint8_t slotlist_without_room(void)
 /* Into a slot that is filled. */
 static uint8_t refused_load(void)
 {
-    return card_load(table, CARD_SLOTS, number, 1, algorithm, CARD_FOR_BOTH, 0, PLACE, 0, 0, key);
+    return card_load(table, CARD_SLOTS, number, 1, served(), CARD_FOR_BOTH, 0, PLACE, 0, 0, key);
+}
+
+static uint8_t load_of_tea6(void)
+{
+    return card_load(table, CARD_SLOTS, target, 1, CARD_TEA6, CARD_FOR_BOTH, 0, PLACE, 0, 0, key);
 }
 
 static uint8_t refused_move(void)
@@ -114,6 +125,13 @@ static uint8_t refused_read(void)
 static uint8_t traffic_of_no_slot(void)
 {
     return card_traffic(table, CARD_SLOTS, direction, 0, iv, CARD_IV_BYTES, buffer, sizeof buffer, start, length, skip,
+                        &blocks);
+}
+
+static uint8_t send_with_tea6(void)
+{
+    table[number - 1].algorithm = CARD_TEA6;
+    return card_traffic(table, CARD_SLOTS, CARD_SEND, number, iv, CARD_IV_BYTES, buffer, sizeof buffer, start, length, skip,
                         &blocks);
 }
 
@@ -167,7 +185,7 @@ static uint8_t refused_bench(void)
 
 static uint8_t rust_load(void)
 {
-    return bound_load(target, algorithm, PLACE, key);
+    return bound_load(target, served(), PLACE, key);
 }
 
 static uint8_t rust_move(void)
@@ -247,6 +265,7 @@ static const struct bar its_sheet = {
 const struct keyed_call keyed_calls[KEYED_CALLS] = {
     {"card_load", make_load, CARD_DONE, &its_key},
     {"  refused with 9", refused_load, CARD_TARGET_FILLED, &nothing},
+    {"  refused with 21", load_of_tea6, CARD_OUT_OF_SERVICE, &nothing},
     {"card_move", make_move, CARD_DONE, &its_key},
     {"  refused with 9", refused_move, CARD_TARGET_FILLED, &nothing},
     {"card_clear", make_clear, CARD_DONE, &its_key},
@@ -255,6 +274,7 @@ const struct keyed_call keyed_calls[KEYED_CALLS] = {
     {"  refused with 8", refused_read, CARD_SLOT_EMPTY, &nothing},
     {"card_traffic", make_traffic, CARD_DONE, &its_cipher},
     {"  refused with 7", traffic_of_no_slot, CARD_SLOT_NUMBER, &nothing},
+    {"  refused with 21", send_with_tea6, CARD_OUT_OF_SERVICE, &its_key},
     {"  refused with 4", traffic_of_no_bits, CARD_LENGTH, &its_key},
     {"  with 16, key", traffic_beside_no_fields, CARD_TABLE, &its_key},
     {"  with 16, fields", traffic_beside_bad_fields, CARD_TABLE, &its_key},
@@ -297,12 +317,12 @@ static void choose_table(uint64_t *generator)
     memcpy(chosen[number - 1].key, key, CARD_KEY_BYTES);
 }
 
-/* Writes the record of a slot, and returns its length. */
-static size_t write_record(uint8_t *to, uint64_t of)
+/* Writes the record of a slot, with an algorithm, and returns its length. */
+static size_t write_record(uint8_t *to, uint64_t of, uint8_t with)
 {
     static const char *const names[] = {"TEA5", "TEA6", "TEA7"};
     int count = sprintf((char *)to, "number=%d\nversion=1\nalg=%s\nuse=BOTH\nside=0\nplace=%d\nkey=", (int)of,
-                        names[algorithm - CARD_TEA5], PLACE);
+                        names[with - CARD_TEA5], PLACE);
 
     for (int i = 0; i < CARD_KEY_BYTES; i++)
         count += sprintf((char *)to + count, "%02x", chosen[of - 1].key[i]);
@@ -310,14 +330,14 @@ static size_t write_record(uint8_t *to, uint64_t of)
     return (size_t)count + 1;
 }
 
-/* The text is the slot's record, the sheet has one of each slot that is filled. */
+/* The text is the slot's record, the sheet has one of each slot that is filled, to be loaded. */
 static void choose_text(void)
 {
-    text_bytes = write_record(text, number);
+    text_bytes = write_record(text, number, algorithm);
     sheet_bytes = 0;
     for (uint64_t i = 1; i <= CARD_SLOTS; i++)
         if (i != target)
-            sheet_bytes += write_record(sheet + sheet_bytes, i);
+            sheet_bytes += write_record(sheet + sheet_bytes, i, served());
     secrets_add(THE_KEY, key, CARD_KEY_BYTES);
     secrets_add(KEY_AS_TEXT, text + text_bytes - 1 - 2 * CARD_KEY_BYTES, 2 * CARD_KEY_BYTES);
 }
@@ -352,6 +372,8 @@ void calls_choose(uint64_t *generator)
     random_bytes(generator, key, sizeof key);
     random_bytes(generator, iv, sizeof iv);
     algorithm = (uint8_t)(CARD_TEA5 + generator_next(generator) % 3);
+    if (algorithm == CARD_TEA6)
+        iv[PLACE / 8] |= 0x80 >> PLACE % 8; /* a receive: it doesn't send */
     direction = iv[PLACE / 8] >> (7 - PLACE % 8) & 1 ? CARD_RECEIVE : CARD_SEND;
     length = 1 + generator_next(generator) % CARD_KEYSTREAM_BITS;
     skip = generator_next(generator) % (CARD_KEYSTREAM_BITS - length + 1);

@@ -18,7 +18,7 @@ struct keyed_call {
     const struct bar *bar;
 };
 
-enum { KEYED_CALLS = 34 };
+enum { KEYED_CALLS = 36 };
 
 extern const struct keyed_call keyed_calls[KEYED_CALLS];
 

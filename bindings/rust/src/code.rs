@@ -12,7 +12,8 @@ use crate::Refusal;
 pub enum Algorithm {
     /// TEA5.
     Tea5 = 5,
-    /// TEA6.
+    /// TEA6, which is out of service: no key of it is loaded, and none sends. One that is there can receive, be read,
+    /// moved and cleared.
     Tea6 = 6,
     /// TEA7.
     Tea7 = 7,

@@ -26,14 +26,14 @@ pub struct Fields {
 /// ```
 /// use card::{Asked, Refusal, Table};
 ///
-/// let asked = Asked { version: 17, algorithm: 6, usage: 1, side: 0, place: 80, mcc: 0, mnc: 0 };
+/// let asked = Asked { version: 17, algorithm: 7, usage: 1, side: 0, place: 80, mcc: 0, mnc: 0 };
 /// assert_eq!(Table::new().load(3, asked, &[7; 24]), Err(Refusal::SideOrPlace));
 /// ```
 #[derive(Clone, Copy, Debug, PartialEq, Eq, Hash)]
 pub struct Asked {
     /// The key's version.
     pub version: u16,
-    /// 5, 6 or 7; any other number is refused with 1.
+    /// 5, 6 or 7; any other number is refused with 1, and 6 with 21 where a key is loaded.
     pub algorithm: u64,
     /// 1 sending, 2 receiving, 3 both; any other number is refused with 10.
     pub usage: u64,

@@ -64,12 +64,14 @@ pub enum Refusal {
     PduParts,
     /// 20: mobile country code above 1,023 or mobile network code above 16,383.
     Network,
+    /// 21: algorithm out of service: a load of TEA6, or a send with it.
+    OutOfService,
     /// A number that isn't listed here: the library is newer than these bindings.
     Unlisted(u8),
 }
 
 /// The refusals from 1 on.
-const LISTED: [Refusal; 20] = [
+const LISTED: [Refusal; 21] = [
     Refusal::Algorithm,
     Refusal::BenchKey,
     Refusal::IvSize,
@@ -94,10 +96,11 @@ const LISTED: [Refusal; 20] = [
     Refusal::PduCode,
     Refusal::PduParts,
     Refusal::Network,
+    Refusal::OutOfService,
 ];
 
 /// What is wrong and what to look at, from refusal 1 on. Refusal 15 says more, by its line and column.
-const SENTENCES: [&str; 20] = [
+const SENTENCES: [&str; 21] = [
     "the algorithm isn't 5, 6 or 7; look at the algorithm that was asked for",
     "the bench key isn't 24 bytes; look at how long the key is",
     "the initial value isn't 10 bytes; look at how long it is",
@@ -118,6 +121,7 @@ const SENTENCES: [&str; 20] = [
     "the PDU's kind, state or flag is unknown, or the PDU is above 8,288 bits; look at these four numbers",
     "the PDU's parts don't fit; look at its length, and at where its address and its DM-SDU start",
     "the mobile country code is above 1,023 or the mobile network code above 16,383; look at these two numbers",
+    "TEA6 is out of service: it isn't loaded, and a key of it doesn't send; look at the algorithm, and ask for a key of TEA5 or TEA7",
 ];
 
 /// What the lines of a record of form 2 should be, from line 1 on.
@@ -158,6 +162,7 @@ impl Refusal {
             Refusal::PduCode => 18,
             Refusal::PduParts => 19,
             Refusal::Network => 20,
+            Refusal::OutOfService => 21,
             Refusal::Unlisted(number) => number,
         }
     }
@@ -260,7 +265,7 @@ mod tests {
             let refusal = Refusal::answered(answer).unwrap();
             assert_eq!(refusal.number(), answer);
             let listed = !matches!(refusal, Refusal::Unlisted(_));
-            assert_eq!(listed, answer <= 20);
+            assert_eq!(listed, answer <= 21);
         }
     }
 }

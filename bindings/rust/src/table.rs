@@ -89,7 +89,7 @@ impl Table {
 
     /// Fills an empty slot, with [`Fields`] or with the numbers of an [`Asked`].
     ///
-    /// Refused: 7, 1, 10, 11, 9.
+    /// Refused: 7, 1, 21 (TEA6), 10, 11, 20, 9.
     pub fn load(
         &mut self,
         number: u64,
@@ -130,7 +130,7 @@ impl Table {
     /// Ciphers a span of the buffer with the key of a slot, and gives the number of keystream blocks,
     /// of 256 bits, in which a used bit lies. The same call again brings the buffer back.
     ///
-    /// Refused: 10, 7, 8, 12, 3, 13, 5, 4, 6.
+    /// Refused: 10, 7, 8, 12, 21 (a send with TEA6), 3, 13, 5, 4, 6.
     pub fn traffic(
         &self,
         direction: impl Into<Code<Direction>>,
@@ -147,7 +147,7 @@ impl Table {
     /// [`plan`](crate::plan), or no bit. The fragmentation flag is read from the PDU. It gives the number of different
     /// keystream blocks that are used, 0 where there is no piece. The same call again brings the PDU back.
     ///
-    /// Refused: 10, 7, 8, 12, 3, 13, 5, 6, 18, 19.
+    /// Refused: 10, 7, 8, 12, 21 (a send with TEA6), 3, 13, 5, 6, 18, 19.
     ///
     /// ```
     /// use card::{Algorithm, Direction, Fields, Pdu, PduKind, PduState, Table, Use};

@@ -20,7 +20,7 @@ fn constants() -> BTreeMap<&'static str, u64> {
     named.filter_map(constant).collect()
 }
 
-const REFUSALS: [(&str, Refusal); 20] = [
+const REFUSALS: [(&str, Refusal); 21] = [
     ("ALGORITHM", Refusal::Algorithm),
     ("BENCH_KEY", Refusal::BenchKey),
     ("IV_SIZE", Refusal::IvSize),
@@ -41,6 +41,7 @@ const REFUSALS: [(&str, Refusal); 20] = [
     ("PDU_CODE", Refusal::PduCode),
     ("PDU_PARTS", Refusal::PduParts),
     ("NETWORK", Refusal::Network),
+    ("OUT_OF_SERVICE", Refusal::OutOfService),
 ];
 
 #[test]

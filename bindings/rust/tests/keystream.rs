@@ -2,8 +2,8 @@
 
 mod common;
 
-use card::{bench, Direction, Span, Use, KEYSTREAM_BITS};
-use common::{bytes, second_span, second_table, table, ALGORITHMS, IV, KEY};
+use card::{bench, Algorithm, Direction, Refusal, Span, Use, KEYSTREAM_BITS};
+use common::{bytes, in_service, second_span, second_table, table, ALGORITHMS, IV, KEY};
 
 #[test]
 fn the_bench_keystream_is_the_second_programs() {
@@ -31,6 +31,7 @@ fn traffic_is_the_second_programs_and_comes_back() {
         (801, 2, 255),
     ];
     for algorithm in ALGORITHMS {
+        let (direction, iv) = in_service(algorithm);
         let card = table(algorithm, Use::Both);
         let second = second_table(algorithm, Use::Both);
         for (start, length, skip) in spans {
@@ -41,10 +42,16 @@ fn traffic_is_the_second_programs_and_comes_back() {
             };
             let plain = bytes(1050);
             let mut buffer = plain.clone();
-            let blocks = card.traffic(Direction::Send, 3, &IV, &mut buffer, span);
+            let blocks = card.traffic(direction, 3, &iv, &mut buffer, span);
             let mut expected = plain.clone();
-            let answer =
-                second::card::traffic(&second, 1, 3, &IV, &mut expected, second_span(span));
+            let answer = second::card::traffic(
+                &second,
+                direction.into(),
+                3,
+                &iv,
+                &mut expected,
+                second_span(span),
+            );
             assert_eq!(answer.refusal, 0);
             assert_eq!(
                 blocks.unwrap() as u64,
@@ -53,8 +60,7 @@ fn traffic_is_the_second_programs_and_comes_back() {
             );
             assert!(buffer == expected, "{algorithm:?} {span:?}");
 
-            card.traffic(Direction::Send, 3, &IV, &mut buffer, span)
-                .unwrap();
+            card.traffic(direction, 3, &iv, &mut buffer, span).unwrap();
             assert!(buffer == plain, "{algorithm:?} {span:?}");
         }
     }
@@ -62,9 +68,9 @@ fn traffic_is_the_second_programs_and_comes_back() {
 
 #[test]
 fn what_one_side_sends_the_other_receives() {
-    let sender = table(ALGORITHMS[1], Use::Send);
+    let sender = table(Algorithm::Tea7, Use::Send);
     let mut receiver = card::Table::new();
-    let mut fields = common::fields(ALGORITHMS[1], Use::Receive);
+    let mut fields = common::fields(Algorithm::Tea7, Use::Receive);
     fields.side = 1;
     receiver.load(20, fields, &KEY).unwrap();
 
@@ -82,4 +88,34 @@ fn what_one_side_sends_the_other_receives() {
         .traffic(Direction::Receive, 20, &IV, &mut buffer, span)
         .unwrap();
     assert_eq!(buffer, bytes(20));
+}
+
+/// A key of TEA6 that is there is read, moved and cleared, and what was sent to it is read; it sends nothing.
+#[test]
+fn a_key_of_tea6_that_is_there_does_all_but_send() {
+    let mut card = table(Algorithm::Tea6, Use::Both);
+    let fields = common::fields(Algorithm::Tea6, Use::Both);
+    assert_eq!(card.read(3), Ok(fields));
+    assert_eq!(card.load(4, fields, &KEY), Err(Refusal::OutOfService));
+    card.move_slot(3, 32, Use::Both).unwrap();
+
+    let span = Span {
+        start: 0,
+        length: 160,
+        skip: 0,
+    };
+    let mut buffer = bytes(20);
+    let sent = card.traffic(Direction::Send, 32, &IV, &mut buffer, span);
+    assert_eq!(sent, Err(Refusal::OutOfService));
+    assert_eq!(buffer, bytes(20));
+    let received = card.traffic(
+        Direction::Receive,
+        32,
+        &common::other_side(),
+        &mut buffer,
+        span,
+    );
+    assert_eq!(received, Ok(1));
+    assert_ne!(buffer, bytes(20));
+    card.clear(32).unwrap();
 }

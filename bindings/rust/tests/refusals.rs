@@ -120,6 +120,24 @@ fn trafficked(reached: &mut Reached) {
     assert_eq!(shown(&card), shown(&table(Algorithm::Tea5, Use::Send)));
 }
 
+/// Sends with a key of TEA6 in slot 3, for each use, by either call: 21 comes after 12 and before 3.
+fn sent_out_of_service(reached: &mut Reached) {
+    for (usage, refusal) in [(Use::Send, 21), (Use::Receive, 12), (Use::Both, 21)] {
+        let card = table(Algorithm::Tea6, usage);
+        let second = second_table(Algorithm::Tea6, usage);
+        let mut lent = bytes(16);
+        let span = second_span(WHOLE_BYTE);
+        let answer = second::card::traffic(&second, 1, 3, &IV, &mut bytes(16), span).refusal;
+        let sent = card.traffic(1, 3, &IV, &mut lent, WHOLE_BYTE);
+        reached.refused(refusal, sent, answer);
+        let short = &IV[..9];
+        let whole = second_pdu(&GOOD_PDU);
+        let answer = second::pdu::pdu(&second, 1, 3, short, &mut bytes(16), &whole).refusal;
+        reached.refused(refusal, card.pdu(1, 3, short, &mut lent, &GOOD_PDU), answer);
+        assert_eq!(lent, bytes(16));
+    }
+}
+
 /// Loads and moves on a table with a send key in slot 3, and what the table shows after each.
 fn loaded_and_moved(reached: &mut Reached) {
     let mut card = table(Algorithm::Tea5, Use::Send);
@@ -132,6 +150,8 @@ fn loaded_and_moved(reached: &mut Reached) {
     };
     load(7, 33, asked(4, 3, 0, 28));
     load(1, 3, asked(261, 4, 0, 28));
+    load(21, 4, asked(6, 3, 0, 28));
+    load(21, 3, asked(6, 0, 2, 80));
     load(10, 4, asked(5, 0, 2, 28));
     load(11, 4, asked(5, 3, 2, 28));
     load(11, 3, asked(5, 3, 0, 80));
@@ -319,12 +339,13 @@ fn every_refusal_is_reached_and_changes_nothing() {
     let mut reached = Reached::default();
     benched(&mut reached);
     trafficked(&mut reached);
+    sent_out_of_service(&mut reached);
     loaded_and_moved(&mut reached);
     tables_from_c(&mut reached);
     records(&mut reached);
     plans(&mut reached);
     pdus(&mut reached);
-    assert_eq!(reached.0, (1..=20).collect());
+    assert_eq!(reached.0, (1..=21).collect());
 }
 
 #[test]

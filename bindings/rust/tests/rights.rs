@@ -3,22 +3,15 @@
 mod common;
 
 use card::{Algorithm, Code, Direction, Fields, Refusal, Use, KEEP};
-use common::{fields, table, IV, WHOLE_BYTE};
-
-/// A good initial value for a receive by side 0.
-fn other_side() -> [u8; 10] {
-    let mut iv = IV;
-    iv[3] ^= 0x08;
-    iv
-}
+use common::{fields, other_side, table, IV, WHOLE_BYTE};
 
 #[test]
 fn a_key_for_sending_stays_one_through_moves() {
-    let mut table = table(Algorithm::Tea6, Use::Send);
+    let mut table = table(Algorithm::Tea7, Use::Send);
     for (from, to) in [(3, 9), (9, 32), (32, 1)] {
         table.move_slot(from, to, KEEP).unwrap();
         assert_eq!(table.read(from), Err(Refusal::SlotEmpty));
-        assert_eq!(table.read(to), Ok(fields(Algorithm::Tea6, Use::Send)));
+        assert_eq!(table.read(to), Ok(fields(Algorithm::Tea7, Use::Send)));
 
         let mut buffer = [0x55];
         let received = table.traffic(

@@ -19,7 +19,7 @@ fn shows_no_key(printed: &str) {
 #[test]
 fn debug_prints_no_key() {
     let text = format!(
-        "number=3\nversion=17\nalg=TEA6\nuse=SEND\nside=0\nplace=28\nkey={}\n",
+        "number=3\nversion=17\nalg=TEA5\nuse=SEND\nside=0\nplace=28\nkey={}\n",
         "a7".repeat(24)
     );
     let record = record_read(text.as_bytes()).unwrap();

@@ -70,7 +70,12 @@ enum {
     PDU_FLAG_OF_BIT_11,
     PDU_BLOCKS_ADDED,
     PDU_SAME_SKIP,
-    PDU_PARTS_FIRST
+    PDU_PARTS_FIRST,
+    TEA6_LOADED,
+    TEA6_SENDS,
+    TEA6_NOT_RECEIVED,
+    TEA6_BEFORE_USE,
+    TEA6_SLOT_BAD
 };
 
 #define IS(fault) (BREAK == (fault))
@@ -79,12 +84,19 @@ uint8_t WRAP(load)(struct card_slot *table, size_t slots, uint64_t number, uint1
                    uint64_t usage, uint64_t side, uint64_t place, uint64_t mcc, uint64_t mnc, const uint8_t *key)
 {
     static const uint8_t zeros[CARD_KEY_BYTES];
+    uint8_t answer;
 
     if (IS(LOAD_JUDGES_KEY) && memcmp(key, zeros, sizeof zeros) == 0)
         return CARD_CODE;
     if (IS(SLOTS_CUT))
         slots = (uint32_t)slots;
-    return REAL(load)(table, slots, number, version, algorithm, usage, side, place, mcc, mnc, key);
+    answer = REAL(load)(table, slots, number, version, algorithm, usage, side, place, mcc, mnc, key);
+    if (IS(TEA6_LOADED) && answer == CARD_OUT_OF_SERVICE) {
+        answer = REAL(load)(table, slots, number, version, CARD_TEA7, usage, side, place, mcc, mnc, key);
+        if (answer == CARD_DONE)
+            table[number - 1].algorithm = CARD_TEA6;
+    }
+    return answer;
 }
 
 uint8_t WRAP(move)(struct card_slot *table, size_t slots, uint64_t from, uint64_t to, uint64_t asked)
@@ -127,11 +139,33 @@ uint8_t WRAP(read)(const struct card_slot *table, size_t slots, uint64_t number,
     uint16_t before = *version;
     uint8_t answer = REAL(read)(table, slots, number, found, version, algorithm, usage, side, place, mcc, mnc);
 
+    if (IS(TEA6_SLOT_BAD) && answer == CARD_DONE && *algorithm == CARD_TEA6) {
+        *found = 0;
+        return CARD_TABLE;
+    }
     if (IS(MISREADS_ODD_TABLE) && (uintptr_t)table % 4 != 0)
         *version ^= 1;
     if (IS(READ_LEAVES_VERSION) && answer != CARD_DONE)
         *version = before;
     return answer;
+}
+
+/* Whether the call's slot is there, and holds a key of TEA6. */
+static int of_tea6(const struct card_slot *table, size_t slots, uint64_t number)
+{
+    return slots == CARD_SLOTS && number - 1 < CARD_SLOTS && table[number - 1].algorithm == CARD_TEA6;
+}
+
+/* A send with a key of TEA6, made by a receive of the other side. */
+static uint8_t send_with_tea6(const struct card_slot *table, uint64_t number, const uint8_t *iv, size_t iv_bytes,
+                              uint8_t *buffer, size_t bytes, size_t start, size_t length, size_t skip, size_t *blocks)
+{
+    static struct card_slot other[CARD_SLOTS];
+
+    memcpy(other, table, sizeof other);
+    other[number - 1].usage = CARD_FOR_BOTH;
+    other[number - 1].side ^= 1;
+    return REAL(traffic)(other, CARD_SLOTS, CARD_RECEIVE, number, iv, iv_bytes, buffer, bytes, start, length, skip, blocks);
 }
 
 /* What a wrong traffic call does after the right one. */
@@ -165,7 +199,15 @@ uint8_t WRAP(traffic)(const struct card_slot *table, size_t slots, uint64_t dire
         skip = (uint32_t)skip;
     if (IS(LENGTH_CUT))
         length = (uint16_t)length;
+    if (IS(TEA6_NOT_RECEIVED) && of_tea6(table, slots, number) && direction == CARD_RECEIVE) {
+        *blocks = 0;
+        return CARD_OUT_OF_SERVICE;
+    }
     answer = REAL(traffic)(table, slots, direction, number, iv, iv_bytes, buffer, bytes, start, length, skip, blocks);
+    if (IS(TEA6_SENDS) && answer == CARD_OUT_OF_SERVICE)
+        return send_with_tea6(table, number, iv, iv_bytes, buffer, bytes, start, length, skip, blocks);
+    if (IS(TEA6_BEFORE_USE) && answer == CARD_DIRECTION && of_tea6(table, slots, number) && direction == CARD_SEND)
+        return CARD_OUT_OF_SERVICE;
     if (answer == CARD_DONE)
         spoil_traffic(buffer, bytes, start, length, blocks);
     return IS(OTHER_REFUSAL) && answer == CARD_SPAN ? CARD_LENGTH : answer;

@@ -4,7 +4,7 @@
 use crate::bits::{bit_at, write_bits, xor_bits};
 use crate::refusals::*;
 use crate::rijndael::Key;
-use crate::slots::{slot_index, table_fields, within, Fields, Slot, RECEIVE, SEND};
+use crate::slots::{slot_index, table_fields, within, Fields, Slot, DROPPED, RECEIVE, SEND};
 use crate::tea::{Algorithm, InitialValue, Keystream, BLOCK_BITS, KEYSTREAM_BITS};
 
 /// The longest buffer a call takes.
@@ -133,7 +133,7 @@ fn checked_bench(
     Ok(span.blocks())
 }
 
-/// Ciphers a span with the key of a slot. Refusals 16, 10, 7, 8, 12, 3, 13, 5, 4, 6.
+/// Ciphers a span with the key of a slot. Refusals 16, 10, 7, 8, 12, 21, 3, 13, 5, 4, 6.
 pub fn traffic(
     table: &[Slot],
     direction: u64,
@@ -159,7 +159,7 @@ fn checked_traffic(
     Ok(span.blocks())
 }
 
-/// The setting of a slot that may be used this way; refusals 16, 10, 7, 8, 12, 3, 13.
+/// The setting of a slot that may be used this way; refusals 16, 10, 7, 8, 12, 21, 3, 13.
 pub(crate) fn permitted(
     table: &[Slot],
     direction: u64,
@@ -174,6 +174,9 @@ pub(crate) fn permitted(
     let fields = present[index].ok_or(SLOT_EMPTY)?;
     if !within(direction, fields.usage) {
         return Err(USE_LACKS_DIRECTION);
+    }
+    if direction == SEND && fields.algorithm == DROPPED {
+        return Err(OUT_OF_SERVICE);
     }
     // The slot is good, so of 1, 2 and 3 only 3 is left to be given.
     let setting = Setting::checked(fields.algorithm, &table[index].key, iv)?;

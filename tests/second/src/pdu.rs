@@ -22,7 +22,7 @@ pub struct WholePdu {
     pub sdu: u64,
 }
 
-/// Refusals 16, 10, 7, 8, 12, 3, 13, 5, 6, 18, 19.
+/// Refusals 16, 10, 7, 8, 12, 21, 3, 13, 5, 6, 18, 19.
 pub fn pdu(
     table: &[Slot],
     direction: u64,

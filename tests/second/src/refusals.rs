@@ -34,3 +34,5 @@ pub const PDU_UNKNOWN: Refusal = 18;
 pub const PDU_PARTS_DO_NOT_FIT: Refusal = 19;
 /// A mobile country code or a mobile network code.
 pub const NETWORK_OUT_OF_RANGE: Refusal = 20;
+/// No new key of the algorithm is loaded, and nothing is sent with one.
+pub const OUT_OF_SERVICE: Refusal = 21;

@@ -21,6 +21,9 @@ pub const LAST_PLACE: u64 = 79;
 pub const LAST_MCC: u64 = 1023;
 pub const LAST_MNC: u64 = 16383;
 
+/// TEA6: dropped by the networks. A key of it can still receive, be read, moved and cleared.
+pub const DROPPED: u64 = 6;
+
 /// What may be shown of a slot. The version is 16 bits by its kind; the other numbers are tested.
 #[derive(Clone, Copy, Debug, Default, PartialEq, Eq)]
 pub struct Fields {
@@ -36,9 +39,28 @@ pub struct Fields {
 impl Fields {
     /// Refusals 1, 10, 11, 20.
     pub fn check(&self) -> Result<(), Refusal> {
-        if Algorithm::from_number(self.algorithm).is_none() {
-            return Err(ALGORITHM_UNKNOWN);
+        self.check_algorithm()?;
+        self.check_rest()
+    }
+
+    /// The same of a new key: 1, 21, 10, 11, 20.
+    fn check_new(&self) -> Result<(), Refusal> {
+        self.check_algorithm()?;
+        if self.algorithm == DROPPED {
+            return Err(OUT_OF_SERVICE);
         }
+        self.check_rest()
+    }
+
+    fn check_algorithm(&self) -> Result<(), Refusal> {
+        match Algorithm::from_number(self.algorithm) {
+            Some(_) => Ok(()),
+            None => Err(ALGORITHM_UNKNOWN),
+        }
+    }
+
+    /// Refusals 10, 11, 20.
+    fn check_rest(&self) -> Result<(), Refusal> {
         if !(SEND..=BOTH).contains(&self.usage) {
             return Err(CODE_UNKNOWN);
         }
@@ -151,7 +173,7 @@ pub fn slot_index(number: u64) -> Result<usize, Refusal> {
     }
 }
 
-/// Fills an empty slot. Refusals 16, 7, 1, 10, 11, 9.
+/// Fills an empty slot. Refusals 16, 7, 1, 21, 10, 11, 20, 9.
 pub fn load(table: &mut [Slot], number: u64, fields: &Fields, key: &Key) -> Refusal {
     match load_index(table, number, fields) {
         Ok(index) => {
@@ -165,7 +187,7 @@ pub fn load(table: &mut [Slot], number: u64, fields: &Fields, key: &Key) -> Refu
 fn load_index(table: &[Slot], number: u64, fields: &Fields) -> Result<usize, Refusal> {
     let present = table_fields(table)?;
     let index = slot_index(number)?;
-    fields.check()?;
+    fields.check_new()?;
     match present[index] {
         Some(_) => Err(TARGET_FILLED),
         None => Ok(index),

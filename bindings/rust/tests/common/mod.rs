@@ -1,11 +1,11 @@
 //! One key, and the table that holds it, for the card and for the second program.
 #![allow(dead_code)]
 
-use card::{Algorithm, Asked, Fields, Pdu, Span, Table, Use, SLOTS};
+use card::{Algorithm, Asked, Direction, Fields, Pdu, Slot, Span, Table, Use, SLOTS};
 use second::card::Span as SecondSpan;
 use second::generator::Generator;
 use second::pdu::WholePdu;
-use second::slots::{empty_table, load, Fields as SecondFields, Slot as SecondSlot};
+use second::slots::{empty_table, Fields as SecondFields, Slot as SecondSlot};
 
 pub const ALGORITHMS: [Algorithm; 3] = [Algorithm::Tea5, Algorithm::Tea6, Algorithm::Tea7];
 
@@ -32,19 +32,53 @@ pub fn fields(algorithm: Algorithm, usage: Use) -> Fields {
     }
 }
 
-/// A table with `KEY` in slot 3.
+/// A table with `KEY` in slot 3. A key of TEA6 isn't loaded: it was there.
 pub fn table(algorithm: Algorithm, usage: Use) -> Table {
     let mut table = Table::new();
-    table.load(3, fields(algorithm, usage), &KEY).unwrap();
+    match algorithm {
+        Algorithm::Tea6 => return held(fields(algorithm, usage)),
+        _ => table.load(3, fields(algorithm, usage), &KEY).unwrap(),
+    }
     table
+}
+
+/// A table with `KEY` in slot 3, as it comes from C.
+fn held(fields: Fields) -> Table {
+    let mut slots = vec![Slot::EMPTY; SLOTS];
+    slots[2] = Slot {
+        version: fields.version,
+        algorithm: fields.algorithm as u8,
+        usage: fields.usage as u8,
+        side: fields.side,
+        place: fields.place,
+        mcc: fields.mcc,
+        mnc: fields.mnc,
+        key: KEY,
+    };
+    Table::try_from(&slots[..]).unwrap()
 }
 
 /// The same table of the second program.
 pub fn second_table(algorithm: Algorithm, usage: Use) -> Vec<SecondSlot> {
     let mut table = empty_table();
     let asked = Asked::from(fields(algorithm, usage));
-    assert_eq!(load(&mut table, 3, &second_fields(asked), &KEY), 0);
+    table[2] = SecondSlot::filled(&second_fields(asked), &KEY);
     table
+}
+
+/// A direction in which a key of the algorithm is used, and an initial value for it.
+pub fn in_service(algorithm: Algorithm) -> (Direction, [u8; 10]) {
+    match algorithm {
+        Algorithm::Tea6 => (Direction::Receive, other_side()),
+        _ => (Direction::Send, IV),
+    }
+}
+
+/// A good initial value for a receive by side 0.
+pub fn other_side() -> [u8; 10] {
+    let mut iv = IV;
+    iv[3] ^= 0x08;
+    iv
 }
 
 pub fn second_fields(asked: Asked) -> SecondFields {

@@ -14,6 +14,8 @@ pub const CHECKS: &[Check] = &[
     ("bench from a bit", bench_from_a_bit),
     ("blocks", blocks),
     ("traffic order", traffic_order),
+    ("send order", send_order),
+    ("TEA6", dropped),
     ("traffic rights", traffic_rights),
     ("traffic ranges", traffic_ranges),
     ("traffic bits", traffic_bits),
@@ -227,6 +229,46 @@ fn traffic_order() -> Finding {
         ],
         TrafficCall::outcome,
     )
+}
+
+/// A send with slot 1, which the order of a receive leaves out: a key of TEA6 comes between 12 and 3.
+fn send_order() -> Finding {
+    let good = TrafficCall {
+        direction: SEND,
+        iv: vec![0; 10],
+        ..TrafficCall::good()
+    };
+    same_order(
+        &good,
+        &[
+            (TABLE_BAD, |call| call.table.truncate(31)),
+            (SLOT_EMPTY, |call| call.number = 3),
+            (USE_LACKS_DIRECTION, |call| call.table[0].usage = RECEIVE),
+            (OUT_OF_SERVICE, |call| call.table[0].algorithm = 6),
+            (IV_NOT_10_BYTES, |call| call.iv = vec![0; 9]),
+            (SIDE_BIT_WRONG, |call| call.iv = vec![0x08; 10]),
+            (LENGTH_OUT_OF_RANGE, |call| call.span.length = 0),
+        ],
+        TrafficCall::outcome,
+    )
+}
+
+/// Of the six ways to use a key that may do both, sending with TEA6 alone is refused.
+fn dropped() -> Finding {
+    for algorithm in 5..=7 {
+        for direction in [SEND, RECEIVE] {
+            let mut call = TrafficCall::good();
+            call.table[0].algorithm = algorithm;
+            call.direction = direction;
+            call.iv = vec![if direction == SEND { 0 } else { 0x08 }; 10];
+            let wanted = match (algorithm, direction) {
+                (6, SEND) => OUT_OF_SERVICE,
+                _ => DONE,
+            };
+            same("use", call.outcome()?, wanted)?;
+        }
+    }
+    Ok(())
 }
 
 /// Every use, direction, side and side bit at both ends of the initial value.

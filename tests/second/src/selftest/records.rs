@@ -402,15 +402,16 @@ fn sheet_numbered(number: usize) -> String {
 }
 
 fn slotlist_sheets() -> Finding {
-    let line = "number=3 version=17 alg=TEA6 use=SEND side=0 place=28 mcc=0 mnc=0\n";
+    let line = "number=3 version=17 alg=TEA7 use=SEND side=0 place=28 mcc=0 mnc=0\n";
     let wanted = format!("table=32\n{line}filled=1\n");
-    same("the sheet of the rules", listed(SHEET), wanted)?;
+    let served = SHEET.replace("TEA6", "TEA7");
+    same("the sheet of the rules with TEA7", listed(&served), wanted)?;
     same("no record", listed(""), "table=32\nfilled=0\n".to_string())?;
     let long_line = "number=32 version=65535 alg=TEA7 use=BOTH side=1 place=79 mcc=0 mnc=0\n";
     let wanted = format!("table=32\n{line}{long_line}filled=2\n");
     same(
         "in number order",
-        listed(&(LONG_SHEET.to_string() + SHEET)),
+        listed(&(LONG_SHEET.to_string() + &served)),
         wanted,
     )?;
     let full: String = (1..=SLOTS).map(sheet_numbered).collect();
@@ -424,20 +425,25 @@ fn slotlist_refusals() -> Finding {
     for (input, wanted) in [
         ("x".to_string(), "refused=15 record=1 line=1 column=1\n"),
         (
-            format!("{SHEET}\n"),
+            format!("{LONG_SHEET}\n"),
             "refused=15 record=2 line=1 column=1\n",
         ),
         (
             SHEET.replace("TEA6", "TEA4"),
             "refused=15 record=1 line=3 column=8\n",
         ),
-        (SHEET.repeat(2), "refused=9 record=2 line=0 column=0\n"),
+        (SHEET.to_string(), "refused=21 record=1 line=0 column=0\n"),
+        (
+            format!("{LONG_SHEET}{NEW_SHEET}"),
+            "refused=21 record=2 line=0 column=0\n",
+        ),
+        (LONG_SHEET.repeat(2), "refused=9 record=2 line=0 column=0\n"),
         (
             format!("{LONG_SHEET}{}", &SHEET[..60]),
             "refused=15 record=2 line=7 column=7\n",
         ),
         (
-            format!("{full}{SHEET}"),
+            format!("{full}{LONG_SHEET}"),
             "refused=9 record=33 line=0 column=0\n",
         ),
         (

@@ -18,13 +18,14 @@ pub const CHECKS: &[Check] = &[
     ("move carries", move_carries),
     ("clear and read", clear_and_read),
     ("bad slots", bad_slots),
+    ("TEA6 in a slot", dropped_in_a_slot),
 ];
 
 pub const KEY: Key = [0x3c; 24];
 
 pub const FIELDS: Fields = Fields {
     version: 17,
-    algorithm: 6,
+    algorithm: 7,
     usage: BOTH,
     side: 0,
     place: 28,
@@ -79,6 +80,7 @@ fn load_order() -> Finding {
             (TABLE_BAD, |call| call.table[31].place = 80),
             (SLOT_NUMBER_UNKNOWN, |call| call.number = 33),
             (ALGORITHM_UNKNOWN, |call| call.fields.algorithm = 4),
+            (OUT_OF_SERVICE, |call| call.fields.algorithm = 6),
             (CODE_UNKNOWN, |call| call.fields.usage = 0),
             (SIDE_OR_PLACE_OUT_OF_RANGE, |call| call.fields.place = 80),
             (NETWORK_OUT_OF_RANGE, |call| call.fields.mnc = 16384),
@@ -89,7 +91,7 @@ fn load_order() -> Finding {
 }
 
 fn load_ranges() -> Finding {
-    let cases: [Spoiler<LoadCall>; 22] = [
+    let cases: [Spoiler<LoadCall>; 23] = [
         (DONE, |call| call.fields.mcc = 1023),
         (NETWORK_OUT_OF_RANGE, |call| call.fields.mcc = 1024),
         (NETWORK_OUT_OF_RANGE, |call| call.fields.mcc = 1 << 32),
@@ -101,6 +103,7 @@ fn load_ranges() -> Finding {
         (DONE, |call| call.fields.version = 0),
         (DONE, |call| call.fields.version = 65535),
         (DONE, |call| call.fields.algorithm = 5),
+        (OUT_OF_SERVICE, |call| call.fields.algorithm = 6),
         (DONE, |call| call.fields.algorithm = 7),
         (ALGORITHM_UNKNOWN, |call| call.fields.algorithm = 8),
         (ALGORITHM_UNKNOWN, |call| call.fields.algorithm = 256 + 6),
@@ -294,6 +297,27 @@ fn bad_slots() -> Finding {
     let mut zero_key = empty_table();
     zero_key[SLOTS - 1] = Slot::filled(&FIELDS, &[0; 24]);
     same("a key of zeros", read(&zero_key, 32).refusal, DONE)
+}
+
+/// A key of TEA6 that is there is read, moved and cleared as any other is, and so is one beside it.
+fn dropped_in_a_slot() -> Finding {
+    for dropped in [0, 1] {
+        let mut table = small_table();
+        table[dropped].algorithm = 6;
+        let held = table[dropped];
+        let number = dropped as u64 + 1;
+        same("read", read(&table, number).fields.algorithm, 6)?;
+        same("move", move_slot(&mut table, number, 7, SEND), DONE)?;
+        let carried = Slot {
+            usage: SEND,
+            ..held
+        };
+        same("the moved slot", table[6], carried)?;
+        same("load beside it", load(&mut table, 9, &FIELDS, &KEY), DONE)?;
+        same("clear", clear(&mut table, 7), DONE)?;
+        same("the cleared slot", table[6], Slot::EMPTY)?;
+    }
+    Ok(())
 }
 
 fn refuse_all(what: &str, table: &[Slot]) -> Finding {
