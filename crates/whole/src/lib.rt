@@ -92,7 +92,7 @@ fn open_refusal(
     )
 }
 
-// The plan of a call, by what its slot shows: no key is read to judge a call. Refusals 16, 10, 7, 8, 12, 3, 13, 5, 6, 18, 19, in this order; a call that is
+// The plan of a call, by what its slot shows: no key is read to judge a call. Refusals 16, 10, 7, 8, 12, 21, 3, 13, 5, 6, 18, 19, in this order; a call that is
 // refused has no piece.
 pub fn judged_plan(
     bad: bool,
