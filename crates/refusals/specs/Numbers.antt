@@ -91,6 +91,18 @@ networkBad = 20
 abbrev pub algorithmOutOfService : ℕ
 algorithmOutOfService = 21
 
+-- conversion check (document 02, [11]): a text of records does not read, or repeats a number
+abbrev pub conversionTextBad : ℕ
+conversionTextBad = 22
+
+-- conversion check: above 32 pairs, a number in them that is not there or is repeated, or an after record without a pair
+abbrev pub pairListBad : ℕ
+pairListBad = 23
+
+-- conversion check: a pair that widens its use, or differs in another field or the key
+abbrev pub pairDiffers : ℕ
+pairDiffers = 24
+
 -- refused with the number where the test holds, else what comes later in the order
 abbrev pub refuse : Bool → ℕ → ℕ → ℕ
 refuse test number later = pick test number later

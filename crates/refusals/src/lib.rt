@@ -68,6 +68,15 @@ pub const NETWORK: u8 = 20;
 // algorithm out of service (document 02, [9])
 pub const OUT_OF_SERVICE: u8 = 21;
 
+// conversion check (document 02, [11]): a text of records does not read, or repeats a number
+pub const CONVERSION_TEXT: u8 = 22;
+
+// conversion check: above 32 pairs, a number in them that is not there or is repeated, or an after record without a pair
+pub const PAIR_LIST: u8 = 23;
+
+// conversion check: a pair that widens its use, or differs in another field or the key
+pub const PAIR_DIFFERS: u8 = 24;
+
 // The number where the test holds, else what comes later in the order. An order of refusals is a value, and reads as in specs/.
 pub fn refuse(test: bool, number: u8, later: u8) -> u8
     ensures { λ r. ⌜ r ≡ numbers.refuse test number later ⌝ }

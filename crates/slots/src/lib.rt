@@ -209,7 +209,7 @@ pub fn use_includes(usage: u8, code: u64) -> bool
     usage == 3 || usage as u64 == code
 }
 
-fn lies_within(usage: u64, present: u8) -> bool
+pub fn lies_within(usage: u64, present: u8) -> bool
     ensures { λ r. ⌜ r ≡ within usage present ⌝ }
 {
     fields::is_use(usage) && use_includes(present, usage)
