@@ -1,5 +1,5 @@
 // Does somebody else's conversion of records give no right more? (document 02, [11]) Reads both texts, and loads nothing.
-mod pairs;
+pub mod pairs;
 
 use gathering::gather;
 use pairs::first_differing;
