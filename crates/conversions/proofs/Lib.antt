@@ -1,0 +1,9 @@
+pub mod Lists
+pub mod Tables
+pub mod Tests
+pub mod Sides
+pub mod OfPairs
+pub mod Exact
+pub mod Filled
+pub mod Traces
+pub mod OwnMoves
