@@ -35,7 +35,8 @@ module _ (table : List Slot) (size : length table ≡ 32) (sound : hasBad table 
   alone-starts : Starts (λ origin. false) table table
   alone-starts = record { size = size; sound = sound; twins = itself (λ origin. false) table }
 
-  alone : Meets ourCard (λ origin. false) table table cs cs
+  -- so one list from one table has all that demand 3 says of a run: what a slot holds traces back
+  pub alone : Meets ourCard (λ origin. false) table table cs cs
   alone = demand-3 (λ origin. false) table table alone-starts cs cs (same-list cs)
 
   -- a key given for sending only never gives an accepted receive, through any moves
