@@ -1,0 +1,1 @@
+// What the card's own moves leave passes the check of a conversion. Theorems; no code.
