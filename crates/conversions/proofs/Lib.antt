@@ -4,6 +4,3 @@ pub mod Tests
 pub mod Sides
 pub mod OfPairs
 pub mod Exact
-pub mod Filled
-pub mod Traces
-pub mod OwnMoves

@@ -1,3 +1,2 @@
 pub mod Conforms
 pub mod Verdict
-pub mod Moves
