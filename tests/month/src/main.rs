@@ -4,12 +4,12 @@
 mod logs;
 
 use std::env;
-use std::io::{Read, Write};
-use std::process::{Command, ExitCode, Stdio};
+use std::process::ExitCode;
 
 use logs::{random_log, Kind};
 use second::generator::Generator;
 use second::month::month_sheet;
+use second::running::output_of;
 
 fn main() -> ExitCode {
     let words: Vec<String> = env::args().skip(1).collect();
@@ -40,7 +40,7 @@ fn compare(program: &str, seed: u64, count: u64) -> Result<String, String> {
         let kind = Kind::of(number, &mut generator);
         let log = random_log(&kind, &mut generator);
         let expected = month_sheet(&log);
-        let printed = run(program, &log)?;
+        let printed = output_of(program, &log)?;
         if printed != expected {
             return Err(format!(
                 "log {number} ({kind:?}, {} bytes): month printed {:?}, expected {:?}",
@@ -62,34 +62,6 @@ fn compare(program: &str, seed: u64, count: u64) -> Result<String, String> {
         ));
     }
     Ok(format!("month: {count} logs agree, {sheets} sheets and {refused} refused, {full} of 65,535 lines or more"))
-}
-
-fn run(program: &str, log: &[u8]) -> Result<Vec<u8>, String> {
-    let fault = |error: std::io::Error| format!("{program}: {error}");
-    let mut child = Command::new(program)
-        .stdin(Stdio::piped())
-        .stdout(Stdio::piped())
-        .spawn()
-        .map_err(fault)?;
-    // a program that has found a bad line reads no further: that its end of the pipe is shut is no fault
-    let _ = child
-        .stdin
-        .take()
-        .ok_or("no standard input")?
-        .write_all(log);
-    let mut printed = Vec::new();
-    child
-        .stdout
-        .take()
-        .ok_or("no standard output")?
-        .read_to_end(&mut printed)
-        .map_err(fault)?;
-    let ended = child.wait().map_err(fault)?;
-    if ended.success() {
-        Ok(printed)
-    } else {
-        Err(format!("{program} ended with {ended}"))
-    }
 }
 
 fn first_line_that_differs(a: &[u8], b: &[u8]) -> String {

@@ -6,6 +6,7 @@ use std::process::ExitCode;
 
 use second::blocklines::{encrypt_lines, random_lines};
 use second::cases::vector_file;
+use second::conversion_input;
 use second::month::month_sheet;
 use second::records::slotlist;
 use second::selftest::{checks, failures};
@@ -18,6 +19,7 @@ const USAGE: &str = "usage:
   second encrypt             read such lines, print the encrypted blocks
   second slotlist            read key records, list them as the program slotlist does
   second month               read a call log, print its month sheet as the program month does
+  second converted           read a conversion, print what the program converted prints of it
   second selftest            check the program itself";
 
 fn main() -> ExitCode {
@@ -38,6 +40,7 @@ fn run(words: &[&str]) -> Result<(), String> {
         ["expect"] => print(expected_output(&input()?).as_bytes()),
         ["blocks", seed, count] => print(random_lines(number(seed)?, number(count)?).as_bytes()),
         ["encrypt"] => print(encrypt_lines(&String::from_utf8_lossy(&input()?))?.as_bytes()),
+        ["converted"] => print(&conversion_input::printed(&input()?)),
         ["month"] => print(&month_sheet(&input()?)),
         ["slotlist"] => print(&slotlist(&input()?)),
         ["selftest"] => run_checks(),

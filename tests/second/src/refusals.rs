@@ -36,3 +36,9 @@ pub const PDU_PARTS_DO_NOT_FIT: Refusal = 19;
 pub const NETWORK_OUT_OF_RANGE: Refusal = 20;
 /// No new key of the algorithm is loaded, and nothing is sent with one.
 pub const OUT_OF_SERVICE: Refusal = 21;
+/// A text of a conversion doesn't read, or repeats a number.
+pub const CONVERSION_TEXT_BAD: Refusal = 22;
+/// More than 32 pairs, a number that is not there or already named on its side, or a record after that stands in no pair.
+pub const CONVERSION_PAIR_BAD: Refusal = 23;
+/// A pair that widens a use or differs.
+pub const CONVERSION_GROWS: Refusal = 24;

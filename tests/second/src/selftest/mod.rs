@@ -3,6 +3,7 @@
 
 mod card;
 mod cipher;
+mod conversion;
 mod month;
 mod pdu;
 mod plan;
@@ -27,6 +28,7 @@ pub fn checks() -> Vec<Check> {
         records::CHECKS,
         plan::CHECKS,
         month::CHECKS,
+        conversion::CHECKS,
         pdu::CHECKS,
     ]
     .concat()
