@@ -1,6 +1,7 @@
 //! Links the card's static library: the file that `CARD_LIBRARY` names, or the repository's
-//! target/staticlib/libcard.a; and with the feature `plain` the plain engine's, `PLAIN_LIBRARY` or libplain.a
-//! there.
+//! target/staticlib/libcard.a; with the feature `plain` the plain engine's, `PLAIN_LIBRARY` or libplain.a
+//! there; and with the feature `conversion` that of the checker of conversions, `CONVERSION_LIBRARY` or
+//! libconversion.a there.
 
 use std::env;
 use std::path::{Path, PathBuf};
@@ -9,6 +10,9 @@ fn main() {
     link("card", "CARD_LIBRARY");
     if env::var_os("CARGO_FEATURE_PLAIN").is_some() {
         link("plain", "PLAIN_LIBRARY");
+    }
+    if env::var_os("CARGO_FEATURE_CONVERSION").is_some() {
+        link("conversion", "CONVERSION_LIBRARY");
     }
 }
 

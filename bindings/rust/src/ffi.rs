@@ -1,4 +1,4 @@
-//! All that is unsafe: the calls of include/card.h and card_plain.h behind functions that are safe, and overwriting what
+//! All that is unsafe: the calls of include/card.h, card_plain.h and card_converted.h behind functions that are safe, and overwriting what
 //! must not stay in memory.
 //!
 //! The header asks three things of its callers. Pointers that aren't null and are good for their length:
@@ -101,6 +101,17 @@ extern "C" {
         length_bits: usize,
         skip_bits: usize,
         blocks: *mut usize,
+    ) -> u8;
+
+    #[cfg(feature = "conversion")]
+    fn card_converted(
+        before: *const u8,
+        before_bytes: usize,
+        after: *const u8,
+        after_bytes: usize,
+        pairs: *const u64,
+        numbers: usize,
+        place: *mut usize,
     ) -> u8;
 
     fn card_record_read(
@@ -341,6 +352,33 @@ pub fn plain(
         )
     };
     answered(answer, blocks)
+}
+
+#[cfg(feature = "conversion")]
+pub fn converted(before: &[u8], after: &[u8], pairs: &[crate::Pair]) -> Result<(), Refusal> {
+    let mut place = 0;
+    // Safety: each pointer is good for its length, a pair is two numbers without a gap, and the library keeps none of
+    // the pointers.
+    let answer = unsafe {
+        card_converted(
+            before.as_ptr(),
+            before.len(),
+            after.as_ptr(),
+            after.len(),
+            pairs.as_ptr().cast(),
+            2 * pairs.len(),
+            &mut place,
+        )
+    };
+    wipe::stack_below();
+    let place = place as u8;
+    match answered(answer, ()) {
+        Err(Refusal::PairList { .. }) => Err(Refusal::PairList {
+            pair: (place > 0).then_some(place),
+        }),
+        Err(Refusal::PairDiffers { .. }) => Err(Refusal::PairDiffers { pair: place }),
+        answered => answered,
+    }
 }
 
 pub fn record_read(text: &[u8]) -> Result<Record, Refusal> {

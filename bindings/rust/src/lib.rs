@@ -4,6 +4,8 @@
 
 mod bench;
 mod code;
+#[cfg(feature = "conversion")]
+mod conversion;
 #[allow(unsafe_code)]
 mod ffi;
 mod fields;
@@ -20,6 +22,8 @@ mod wipe;
 
 pub use bench::bench;
 pub use code::{Algorithm, Code, Direction, PduKind, PduState, Use, KEEP};
+#[cfg(feature = "conversion")]
+pub use conversion::{converted, Pair};
 pub use fields::{Asked, Fields};
 pub use key::Key;
 #[cfg(feature = "plain")]
@@ -45,3 +49,6 @@ pub const KEYSTREAM_BITS: usize = 8288;
 pub const RECORD_BYTES: usize = 137;
 /// Room for every listing of a sheet.
 pub const LISTING_BYTES: usize = 2560;
+/// The most pairs of a conversion.
+#[cfg(feature = "conversion")]
+pub const PAIRS: usize = 32;

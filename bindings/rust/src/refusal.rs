@@ -66,12 +66,25 @@ pub enum Refusal {
     Network,
     /// 21: algorithm out of service: a load of TEA6, or a send with it.
     OutOfService,
+    /// 22: a text of a conversion bad, or a number twice in it.
+    ConversionText,
+    /// 23: pairs of a conversion above 32, a number that is not there or named again, or a record after without a
+    /// pair.
+    PairList {
+        /// The first pair that names a number wrongly, counted from 1. None where no pair does.
+        pair: Option<u8>,
+    },
+    /// 24: a pair of a conversion that widens or differs.
+    PairDiffers {
+        /// The first such pair, counted from 1.
+        pair: u8,
+    },
     /// A number that isn't listed here: the library is newer than these bindings.
     Unlisted(u8),
 }
 
-/// The refusals from 1 on.
-const LISTED: [Refusal; 21] = [
+/// Every refusal, in the order of its number.
+const LISTED: [Refusal; 24] = [
     Refusal::Algorithm,
     Refusal::BenchKey,
     Refusal::IvSize,
@@ -97,10 +110,13 @@ const LISTED: [Refusal; 21] = [
     Refusal::PduParts,
     Refusal::Network,
     Refusal::OutOfService,
+    Refusal::ConversionText,
+    Refusal::PairList { pair: None },
+    Refusal::PairDiffers { pair: 0 },
 ];
 
-/// What is wrong and what to look at, from refusal 1 on. Refusal 15 says more, by its line and column.
-const SENTENCES: [&str; 21] = [
+/// What is wrong and what to look at, for each of `LISTED`. Refusals 15, 23 and 24 say more where they have a place.
+const SENTENCES: [&str; 24] = [
     "the algorithm isn't 5, 6 or 7; look at the algorithm that was asked for",
     "the bench key isn't 24 bytes; look at how long the key is",
     "the initial value isn't 10 bytes; look at how long it is",
@@ -122,6 +138,9 @@ const SENTENCES: [&str; 21] = [
     "the PDU's parts don't fit; look at its length, and at where its address and its DM-SDU start",
     "the mobile country code is above 1,023 or the mobile network code above 16,383; look at these two numbers",
     "TEA6 is out of service: it isn't loaded, and a key of it doesn't send; look at the algorithm, and ask for a key of TEA5 or TEA7",
+    "the records before or after the conversion don't read to their end, or a number stands twice; look at both texts one by one: slotlist names a bad record and its line",
+    "there are more than 32 pairs, or a record after the conversion stands in no pair; look at whether each record after has one line in the list",
+    "a pair's records differ, or the use after is wider than the use before; look at the use of both first",
 ];
 
 /// What the lines of a record of form 2 should be, from line 1 on.
@@ -163,6 +182,9 @@ impl Refusal {
             Refusal::PduParts => 19,
             Refusal::Network => 20,
             Refusal::OutOfService => 21,
+            Refusal::ConversionText => 22,
+            Refusal::PairList { .. } => 23,
+            Refusal::PairDiffers { .. } => 24,
             Refusal::Unlisted(number) => number,
         }
     }
@@ -189,9 +211,22 @@ impl Refusal {
 
     /// The refusal that a call answered; nothing where it was done.
     pub(crate) fn answered(answer: u8) -> Option<Refusal> {
-        let place = usize::from(answer.checked_sub(1)?);
-        let listed = LISTED.get(place).copied();
-        Some(listed.unwrap_or(Refusal::Unlisted(answer)))
+        let listed = || {
+            LISTED
+                .into_iter()
+                .find(|refusal| refusal.number() == answer)
+        };
+        (answer > 0).then(|| listed().unwrap_or(Refusal::Unlisted(answer)))
+    }
+
+    /// What is wrong and what to look at, without a place.
+    fn sentence(self) -> &'static str {
+        let listed = LISTED.iter().zip(SENTENCES);
+        let mut same = listed.filter(|(refusal, _)| refusal.number() == self.number());
+        same.next().map_or(
+            "this number is newer than the bindings; look it up in the library's headers",
+            |(_, sentence)| sentence,
+        )
     }
 }
 
@@ -203,10 +238,15 @@ impl fmt::Display for Refusal {
             Refusal::RecordText { form, line, column } => {
                 write_line_sentence(f, *form, *line, *column)
             }
-            Refusal::Unlisted(_) => f.write_str(
-                "this number is newer than the bindings; look it up in the library's card.h",
+            Refusal::PairList { pair: Some(pair) } => write!(
+                f,
+                "pair {pair} names a number that no record has, or one that an earlier pair names on the same side; look at that pair and at the records' numbers"
             ),
-            _ => f.write_str(SENTENCES[usize::from(number) - 1]),
+            Refusal::PairDiffers { pair } => write!(
+                f,
+                "the records of pair {pair} differ, or the use after is wider than the use before; look at the use of both first, then at key, version, algorithm, side, place and network"
+            ),
+            _ => f.write_str(self.sentence()),
         }
     }
 }
@@ -265,7 +305,7 @@ mod tests {
             let refusal = Refusal::answered(answer).unwrap();
             assert_eq!(refusal.number(), answer);
             let listed = !matches!(refusal, Refusal::Unlisted(_));
-            assert_eq!(listed, answer <= 21);
+            assert_eq!(listed, matches!(answer, 1..=24));
         }
     }
 }
