@@ -258,7 +258,7 @@ above-seven s r h = go (r .stuck .could .two) refl
 -- WRITING, in form 2 only
 
 -- what is read, of either form, is good for form 2
-for-two : (two : Bool) {number : ℕ} {f : Fields} {key : List ℕ} → Good two number f key → Good true number f key
+pub for-two : (two : Bool) {number : ℕ} {f : Fields} {key : List ℕ} → Good two number f key → Good true number f key
 for-two true g = g
 for-two false g =
     record {

@@ -1,0 +1,1 @@
+// Theorems on mending a damaged record sheet. No code.
