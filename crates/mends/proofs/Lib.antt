@@ -1,1 +1,11 @@
 pub mod Printed
+pub mod Bytes
+pub mod OneLine
+pub mod Raised
+pub mod Values
+pub mod Orders
+pub mod Sheets
+pub mod GoodValues
+pub mod Clean
+pub mod Damaged
+pub mod Unchanged
