@@ -9,3 +9,6 @@ pub mod GoodValues
 pub mod Clean
 pub mod Damaged
 pub mod Unchanged
+pub mod Names
+pub mod BadNames
+pub mod Refusals
