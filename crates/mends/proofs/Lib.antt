@@ -12,3 +12,6 @@ pub mod Unchanged
 pub mod Names
 pub mod BadNames
 pub mod Refusals
+pub mod Digits
+pub mod Wholes
+pub mod Kept

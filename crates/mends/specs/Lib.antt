@@ -1,3 +1,4 @@
 pub mod Accepted
 pub mod Damage
 pub mod Refused
+pub mod Kept
