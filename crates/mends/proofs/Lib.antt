@@ -15,3 +15,6 @@ pub mod Refusals
 pub mod Digits
 pub mod Wholes
 pub mod Kept
+pub mod GoodOrNot
+pub mod OutOfForm
+pub mod Promises
