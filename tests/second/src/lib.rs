@@ -11,6 +11,7 @@ pub mod conversion_input;
 pub mod field;
 pub mod generator;
 pub mod hex;
+pub mod mending;
 pub mod month;
 pub mod pdu;
 pub mod plan;

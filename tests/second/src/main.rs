@@ -7,6 +7,7 @@ use std::process::ExitCode;
 use second::blocklines::{encrypt_lines, random_lines};
 use second::cases::vector_file;
 use second::conversion_input;
+use second::mending::mend_sheet;
 use second::month::month_sheet;
 use second::records::slotlist;
 use second::selftest::{checks, failures};
@@ -20,6 +21,7 @@ const USAGE: &str = "usage:
   second slotlist            read key records, list them as the program slotlist does
   second month               read a call log, print its month sheet as the program month does
   second converted           read a conversion, print what the program converted prints of it
+  second mend                read a damaged record, print what the program mend does
   second selftest            check the program itself";
 
 fn main() -> ExitCode {
@@ -41,6 +43,7 @@ fn run(words: &[&str]) -> Result<(), String> {
         ["blocks", seed, count] => print(random_lines(number(seed)?, number(count)?).as_bytes()),
         ["encrypt"] => print(encrypt_lines(&String::from_utf8_lossy(&input()?))?.as_bytes()),
         ["converted"] => print(&conversion_input::printed(&input()?)),
+        ["mend"] => print(&mend_sheet(&input()?)),
         ["month"] => print(&month_sheet(&input()?)),
         ["slotlist"] => print(&slotlist(&input()?)),
         ["selftest"] => run_checks(),

@@ -18,12 +18,12 @@ const SLOTLIST_BYTES: usize = 8192;
 /// Room for every listing.
 const LISTING_BYTES: usize = 2560;
 
-const ALGORITHM_NAMES: [&str; 3] = ["TEA5", "TEA6", "TEA7"];
-const USE_NAMES: [&str; 3] = ["SEND", "RECV", "BOTH"];
+pub(crate) const ALGORITHM_NAMES: [&str; 3] = ["TEA5", "TEA6", "TEA7"];
+pub(crate) const USE_NAMES: [&str; 3] = ["SEND", "RECV", "BOTH"];
 
 /// The numbers that the first of the names above stand for.
-const FIRST_ALGORITHM: u64 = 5;
-const FIRST_USE: u64 = 1;
+pub(crate) const FIRST_ALGORITHM: u64 = 5;
+pub(crate) const FIRST_USE: u64 = 1;
 
 #[derive(Clone, Copy, Debug, PartialEq, Eq)]
 pub struct Record {

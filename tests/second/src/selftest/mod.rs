@@ -4,6 +4,7 @@
 mod card;
 mod cipher;
 mod conversion;
+mod mending;
 mod month;
 mod pdu;
 mod plan;
@@ -29,6 +30,7 @@ pub fn checks() -> Vec<Check> {
         plan::CHECKS,
         month::CHECKS,
         conversion::CHECKS,
+        mending::CHECKS,
         pdu::CHECKS,
     ]
     .concat()
