@@ -1,0 +1,43 @@
+/* The fuzz target of mending: a text of any bytes, by the proved code and by the second program. */
+
+#define _GNU_SOURCE
+#include <string.h>
+
+#include "compare.h"
+
+int LLVMFuzzerTestOneInput(const uint8_t *text, size_t bytes);
+
+/* What libFuzzer counts beside the code that it sees, since the proved code isn't instrumented: the answers, the length of
+   what is mended, the changes by their length, and how many lines begin with a name. */
+static struct {
+    uint8_t answers[3][32];
+    uint8_t changes[128];
+    uint8_t names[16][16];
+} counters __attribute__((section("__libfuzzer_extra_counters")));
+
+static void count_names(const uint8_t *text, size_t bytes)
+{
+    static const char *const names[] = {"form",  "number", "version", "alg", "use",
+                                        "side", "place",  "mcc",     "mnc", "key"};
+
+    for (size_t i = 0; i < sizeof names / sizeof names[0]; i++) {
+        const uint8_t *found = memmem(text, bytes, names[i], strlen(names[i]));
+
+        counters.names[i][found == NULL ? 0 : 1 + (size_t)(found - text) / 16 % 15]++;
+    }
+}
+
+int LLVMFuzzerTestOneInput(const uint8_t *text, size_t bytes)
+{
+    const struct answer *answer;
+    const uint8_t *changes;
+
+    compare_place("an input of bytes", bytes);
+    answer = compare_text(text, bytes);
+    changes = memmem(answer->out, answer->written, "changed=", 8);
+    count_names(text, bytes);
+    counters.answers[answer->refusal == CARD_DONE ? 0 : answer->refusal - 24][answer->written % 32]++;
+    if (changes != NULL)
+        counters.changes[(answer->written - (size_t)(changes - answer->out)) % 128]++;
+    return 0;
+}
