@@ -36,15 +36,18 @@ highOf part = pick (eqb part finalPart) largestCode largestNumber
 abbrev pub inNumber : ℕ
 inNumber = 9
 
+-- nothing is read of a line
+abbrev pub fresh : ℕ → Bool → Month
+fresh line good =
+    record { line = line; good = good; part = 0; at = 0; number = 0; first = 0; second = 0; third = 0; fourth = 0 }
+
 -- before a line's first byte
 abbrev pub lineStart : ℕ → Month
-lineStart line =
-    record { line = line; good = true; part = 0; at = 0; number = 0; first = 0; second = 0; third = 0; fourth = 0 }
+lineStart line = fresh line true
 
 -- a line is wrong: it stays the first such line, whatever follows
 abbrev pub stopped : ℕ → Month
-stopped line =
-    record { line = line; good = false; part = 0; at = 0; number = 0; first = 0; second = 0; third = 0; fourth = 0 }
+stopped line = fresh line false
 
 -- so far into a part
 abbrev pub soFar : Month → ℕ → ℕ → Month

@@ -64,7 +64,7 @@ unfoldable pub isSound : Call → Bool
 isSound c = pick (isAccepted c) (soundAccepted (c .slot) (c .direction) (c .bits) (c .blocks)) (soundRefused (c .bits) (c .blocks) (c .code))
 
 -- a good line
-pub record Good (c : Call) : Type 0 where
+pub record GoodCall (c : Call) : Type 0 where
   pub form : InForm c
   pub sound : isSound c ≡ true
 
@@ -79,4 +79,4 @@ logText (c ∷ cs) = callText c ++ logText cs
 
 pub data AllGood : List Call → Type 0 where
   none : AllGood []
-  more : {c : Call} {cs : List Call} → Good c → AllGood cs → AllGood (c ∷ cs)
+  more : {c : Call} {cs : List Call} → GoodCall c → AllGood cs → AllGood (c ∷ cs)

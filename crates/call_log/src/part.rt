@@ -5,18 +5,19 @@ use reading::may_follow;
 ghost use mathlib.Core.Path.{_≡_};
 ghost use Prim.Native.Nat.{_-_, _<_, _≤_};
 ghost use lib.ListN.{getD};
-ghost use Rattle.call_log.specs.Fed.{lineStart, stopped, soFar, nextPart, highOf, nameByte, afterDigit, firstDigit, ofName, inLine};
+ghost use Rattle.call_log.specs.Fed.{fresh, lineStart, stopped, soFar, nextPart, highOf, nameByte, afterDigit, firstDigit, ofName, inLine};
 
 const LAST_PART: u64 = 4;
 
 const IN_NUMBER: u64 = 9;
 
-pub fn line_start(line: u64) -> Month
-    ensures { λ r. ⌜ r ≡ lineStart line ⌝ }
+// At a line's start, with nothing read of it.
+fn fresh(line: u64, good: bool) -> Month
+    ensures { λ r. ⌜ r ≡ fresh line good ⌝ }
 {
     Month {
         line,
-        good: true,
+        good,
         part: 0,
         at: 0,
         number: 0,
@@ -27,20 +28,16 @@ pub fn line_start(line: u64) -> Month
     }
 }
 
+pub fn line_start(line: u64) -> Month
+    ensures { λ r. ⌜ r ≡ lineStart line ⌝ }
+{
+    fresh(line, true)
+}
+
 pub fn stopped(line: u64) -> Month
     ensures { λ r. ⌜ r ≡ stopped line ⌝ }
 {
-    Month {
-        line,
-        good: false,
-        part: 0,
-        at: 0,
-        number: 0,
-        first: 0,
-        second: 0,
-        third: 0,
-        fourth: 0,
-    }
+    fresh(line, false)
 }
 
 fn so_far(m: Month, at: u64, number: u64) -> Month

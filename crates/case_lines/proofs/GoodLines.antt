@@ -18,7 +18,7 @@ use Rattle.forms.proofs.Hexes.{digit-is-hex, value-of-digit}
 use Rattle.writing.proofs.Puts.{length-hex}
 use Rattle.lines.specs.Line.{space, indexOf, upTo, pieceLength, afterSpaces, part}
 use Rattle.lines.specs.Parts.{goodNumber, numberOf, allHex, areBytes, bytesOf}
-use Rattle.case_reader.specs.Case.{Case, joined, caseLine, Bytes, GoodCase, lastPart, numbersReadable, isReadable, caseOf}
+use Rattle.case_reader.specs.Case.{Case, joined, caseLine, SomeBytes, GoodCase, lastPart, numbersReadable, isReadable, caseOf}
 use Rattle.lines.proofs.Digits.{number-read}
 use Rattle.lines.proofs.Hexes.{length-bytes}
 use Rattle.case_lines.proofs.Promises.{hex-first, hex-second}
@@ -53,7 +53,7 @@ hex-hex (b ∷ l) h =
 
 -- bytes
 
-module _ (l : List ℕ) (g : Bytes l) where
+module _ (l : List ℕ) (g : SomeBytes l) where
   bytes-good : areBytes (hexText l) ≡ true
   unfolding areBytes
   bytes-good =

@@ -18,7 +18,7 @@ use Rattle.forms.proofs.Hexes.{value-small, digit-of-value}
 use Rattle.writing.proofs.Puts.{length-hex}
 use Rattle.lines.specs.Line.{afterSpaces, part}
 use Rattle.lines.specs.Parts.{numberOf, areBytes, bytesOf}
-use Rattle.case_reader.specs.Case.{joined, caseLine, Narrow, Bytes, GoodCase, lastPart, isNumber, numbersReadable, isReadable, caseOf}
+use Rattle.case_reader.specs.Case.{joined, caseLine, Narrow, SomeBytes, GoodCase, lastPart, isNumber, numbersReadable, isReadable, caseOf}
 use Rattle.lines.proofs.Digits.{number-text}
 use Rattle.lines.proofs.Hexes.{even, digit-at, length-bytes}
 use Rattle.case_reader.proofs.Passed.{key-readable, iv-readable, buffer-readable}
@@ -87,7 +87,7 @@ module _ (s : List ℕ) (e : areBytes s ≡ true) where
   unfolding areBytes
   some-bytes = omega (arith, eqb-false (length s) 0 (not-true (eqb (length s) 0) (and-left (not (eqb (length s) 0)) _ e)))
 
-  bytes-small : Bytes (bytesOf s)
+  bytes-small : SomeBytes (bytesOf s)
   bytes-small = (
     omega (arith, some-bytes, even s e, length-bytes s),
     λ i. ⊎-elim

@@ -41,18 +41,18 @@ caseLine c =
 abbrev pub Narrow : ℕ → Type 0
 Narrow n = n ≤ largest
 
-abbrev pub Bytes : List ℕ → Type 0
-Bytes l = (0 < length l) × ((i : ℕ) → getD l i 0 < 256)
+abbrev pub SomeBytes : List ℕ → Type 0
+SomeBytes l = (0 < length l) × ((i : ℕ) → getD l i 0 < 256)
 
 -- what a line can say
 pub record GoodCase (c : Case) : Type 0 where
   pub algorithm : Narrow (c .algorithm)
-  pub key : Bytes (c .key)
-  pub iv : Bytes (c .iv)
+  pub key : SomeBytes (c .key)
+  pub iv : SomeBytes (c .iv)
   pub start : Narrow (c .start)
   pub bits : Narrow (c .bits)
   pub skip : Narrow (c .skip)
-  pub buffer : Bytes (c .buffer)
+  pub buffer : SomeBytes (c .buffer)
 
 -- the last part: what follows six spaces
 abbrev pub lastPart : List ℕ → List ℕ
@@ -64,9 +64,12 @@ isNumber k line = numberOf (part k line) .good
 unfoldable pub numbersReadable : List ℕ → Bool
 numbersReadable line = isNumber 0 line && (isNumber 3 line && (isNumber 4 line && isNumber 5 line))
 
+abbrev pub bytesReadable : List ℕ → Bool
+bytesReadable line = areBytes (part 1 line) && (areBytes (part 2 line) && areBytes (lastPart line))
+
 -- The last part is never empty, and a space in it is no digit: so a line has neither fewer parts than seven nor more.
 unfoldable pub isReadable : List ℕ → Bool
-isReadable line = numbersReadable line && (areBytes (part 1 line) && (areBytes (part 2 line) && areBytes (lastPart line)))
+isReadable line = numbersReadable line && bytesReadable line
 
 -- what a readable line says
 unfoldable pub caseOf : List ℕ → Case

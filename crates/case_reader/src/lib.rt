@@ -10,8 +10,8 @@ ghost use mathlib.Core.Path.{_≡_};
 ghost use Prim.Native.Nat.{_/_};
 ghost use lib.ListN.{length};
 ghost use Rattle.lines.specs.Line.{part};
-ghost use Rattle.lines.specs.Parts.{numberOf};
-ghost use Rattle.case_reader.specs.Case.{isNumber, lastPart, numbersReadable, isReadable, caseOf, refusalOf, Accepted};
+ghost use Rattle.lines.specs.Parts.{numberOf, areBytes};
+ghost use Rattle.case_reader.specs.Case.{isNumber, lastPart, numbersReadable, bytesReadable, isReadable, caseOf, refusalOf, Accepted};
 
 fn is_number(line: &[u8], k: usize) -> bool
     ensures { λ r. ⌜ r ≡ isNumber k (now (line .entry)) ⌝ }
@@ -65,16 +65,26 @@ fn numbers_readable(line: &[u8]) -> bool
     )
 }
 
+fn is_bytes(line: &[u8], k: usize) -> bool
+    ensures { λ r. ⌜ r ≡ areBytes (part k (now (line .entry))) ⌝ }
+{
+    are_bytes(part(line, k))
+}
+
+fn bytes_readable(line: &[u8]) -> bool
+    ensures { λ r. ⌜ r ≡ bytesReadable (now (line .entry)) ⌝ }
+{
+    both(
+        is_bytes(line, 1),
+        both(is_bytes(line, 2), are_bytes(after_spaces(line, 6))),
+    )
+}
+
 // Has the line the form of a case?
 pub fn is_readable(line: &[u8]) -> bool
     ensures { λ r. ⌜ r ≡ isReadable (now (line .entry)) ⌝ }
 {
-    let buffer = are_bytes(after_spaces(line, 6));
-    let bytes = both(
-        are_bytes(part(line, 1)),
-        both(are_bytes(part(line, 2)), buffer),
-    );
-    both(numbers_readable(line), bytes)
+    both(numbers_readable(line), bytes_readable(line))
 }
 
 pub fn case_refusal(line: &[u8]) -> u8

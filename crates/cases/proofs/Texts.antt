@@ -16,7 +16,7 @@ use Rattle.writing.proofs.Puts.{put-length, length-hex}
 use Rattle.writing.proofs.Digits.{digits-fit, line-length}
 use Rattle.lines.specs.Line.{space, indexOf, upTo}
 use Rattle.case_reader.specs.Case.{Case, isReadable, caseOf, refusalOf, Accepted}
-use Rattle.cases.specs.Answer.{valueText, modeText, ciphered, bufferText, acceptedText, refusedText, unreadableText, caseText, answerText, answerRoom}
+use Rattle.cases.specs.Answer.{valueText, modeText, cipheredCase, bufferText, acceptedText, refusedText, unreadableText, caseText, answerText, answerRoom}
 use Rattle.case_reader.proofs.Passed.{passed}
 
 module _ (line : List ℕ) where
@@ -59,15 +59,15 @@ mode-length algorithm key iv =
       value-length v (length-tabulate _ 0 24),
     )
 
-ciphered-length : (c : Case) → length (ciphered c) ≡ length (c .buffer)
-unfolding ciphered
+ciphered-length : (c : Case) → length (cipheredCase c) ≡ length (c .buffer)
+unfolding cipheredCase
 ciphered-length c = length-xored (c .buffer) _ (c .start) (c .skip) (c .bits)
 
 -- an accepted case's answer fits: the buffer after three values, and so the whole
 module _ {line : List ℕ} (a : Accepted line) where
   pub buffer-fits : 147 + length (bufferText (caseOf line)) ≤ answerRoom
   buffer-fits =
-      let text = ciphered (caseOf line) in
+      let text = cipheredCase (caseOf line) in
       omega (arith, length-append (hexText text) (lf ∷ []), length-hex text, ciphered-length (caseOf line), passed a .span .small)
 
   pub accepted-fits : length (acceptedText (caseOf line)) ≤ answerRoom

@@ -25,11 +25,11 @@ modeText algorithm key iv =
     ++ valueText (modeOf algorithm key iv .value))
 
 -- the buffer after its bits from `start` on were xored with the keystream's from `skip` on
-unfoldable pub ciphered : Case → List ℕ
-ciphered c = xored (c .buffer) (keystream (c .algorithm) (c .key) (c .iv)) (c .start) (c .skip) (c .bits)
+unfoldable pub cipheredCase : Case → List ℕ
+cipheredCase c = xored (c .buffer) (keystream (c .algorithm) (c .key) (c .iv)) (c .start) (c .skip) (c .bits)
 
 abbrev pub bufferText : Case → List ℕ
-bufferText c = hexText (ciphered c) ++ (lf ∷ [])
+bufferText c = hexText (cipheredCase c) ++ (lf ∷ [])
 
 unfoldable pub acceptedText : Case → List ℕ
 acceptedText c = modeText (c .algorithm) (c .key) (c .iv) ++ bufferText c

@@ -16,7 +16,7 @@ ghost use lib.ListN.{length};
 ghost use Rattle.span.specs.Span.{longestBuffer};
 ghost use Rattle.writing.specs.Writing.{Room, Put};
 ghost use Rattle.case_reader.specs.Case.{lastPart, caseOf, Accepted};
-ghost use Rattle.cases.specs.Answer.{valueText, modeText, ciphered, bufferText, acceptedText, answerRoom};
+ghost use Rattle.cases.specs.Answer.{valueText, modeText, cipheredCase, bufferText, acceptedText, answerRoom};
 
 // A value of 24 bytes and a space: 49 bytes.
 fn put_value(out: &mut [u8], at: usize, bytes: [u8; 24]) -> usize
@@ -44,7 +44,7 @@ fn put_mode(out: &mut [u8], at: usize, algorithm: u64, ck: [u8; 24], iv: [u8; 10
 // The buffer of a case, ciphered.
 fn cipher(buf: &mut [u8], line: &[u8])
     requires { ⌜ Accepted (now line) × (length (now buf) ≡ length (lastPart (now line)) / 2) ⌝ }
-    ensures { λ _. ⌜ now (buf .exit) ≡ ciphered (caseOf (now (line .entry))) ⌝ }
+    ensures { λ _. ⌜ now (buf .exit) ≡ cipheredCase (caseOf (now (line .entry))) ⌝ }
 {
     let algorithm = value(line, 0);
     let start = value(line, 3) as usize;

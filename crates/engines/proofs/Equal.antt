@@ -8,7 +8,7 @@ use denote.Ref.{RefT}
 use Rattle.ciphering.specs.declared.Report.{Report}
 use Rattle.ciphering.specs.Span.{Ciphered}
 use Rattle.card.proofs.bench_call.card_bench.Reads as card-bench
-use Rattle.plain.specs.Given.{givenRefusal, given, givenBlocks}
+use Rattle.plain.specs.Given.{givenRefusal, givenBuffer, givenBlocks}
 use Rattle.plain.proofs.Given.{given-bench}
 use Rattle.plain.proofs.call.card_plain.Reads as card-plain
 use Rattle.engines.proofs.quick.Reads as quick
@@ -23,7 +23,7 @@ module _ (algorithm n : ℕ) (key iv buf key′ iv′ buf′ : RefT (List ℕ)) 
       → (r ≡ s .refusal) × (e .1 .1 .1 .0 .now ≡ e′ .1 .1 .1 .0 .now) × (e .1 .1 .1 .1 .1 .1 .0 .now ≡ s .blocks)
   plain-is-quick skip r s κs κs′ e e′ p q = (
     p .0 ∙ (λ i. givenRefusal algorithm (same-key i) (same-iv i) (same-buf i) n skip) ∙ sym (q .0),
-    p .1 ∙ (λ i. given algorithm (same-key i) (same-iv i) (same-buf i) n skip) ∙ sym (q .1),
+    p .1 ∙ (λ i. givenBuffer algorithm (same-key i) (same-iv i) (same-buf i) n skip) ∙ sym (q .1),
     p .2 ∙ (λ i. givenBlocks algorithm (same-key i) (same-iv i) (same-buf i) n skip) ∙ sym (q .2),
   )
 
@@ -35,6 +35,6 @@ module _ (algorithm n : ℕ) (key iv buf key′ iv′ buf′ : RefT (List ℕ)) 
   plain-is-bench blocks′ r s κs κs′ e e′ p q =
       let same = given-bench algorithm (key′ .now) (iv′ .now) (buf′ .now) n in (
         p .0 ∙ (λ i. givenRefusal algorithm (same-key i) (same-iv i) (same-buf i) n 0) ∙ same .0 ∙ sym (ap (λ (x : Ciphered). x .refusal) q),
-        p .1 ∙ (λ i. given algorithm (same-key i) (same-iv i) (same-buf i) n 0) ∙ same .1 ∙ sym (ap (λ (x : Ciphered). x .buffer) q),
+        p .1 ∙ (λ i. givenBuffer algorithm (same-key i) (same-iv i) (same-buf i) n 0) ∙ same .1 ∙ sym (ap (λ (x : Ciphered). x .buffer) q),
         p .2 ∙ (λ i. givenBlocks algorithm (same-key i) (same-iv i) (same-buf i) n 0) ∙ same .2 ∙ sym (ap (λ (x : Ciphered). x .blocks) q),
       )

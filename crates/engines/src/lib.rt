@@ -4,7 +4,7 @@ ghost use Prim.Native.Nat.{_+_, _*_, _≤_};
 ghost use lib.ListN.{length};
 ghost use Rattle.span.specs.Span.{written, blocksUsed};
 ghost use Rattle.keystream.specs.Stream.{keystream};
-ghost use Rattle.plain.specs.Given.{givenRefusal, given, givenBlocks};
+ghost use Rattle.plain.specs.Given.{givenRefusal, givenBuffer, givenBlocks};
 use ciphering::Report;
 use ciphering::lent::iv_of;
 use ciphering::lent::key_of;
@@ -30,7 +30,7 @@ fn write_keystream(
 // By the quick engine: the tables, the list of mixed bytes, the schedule of 32-bit words.
 pub fn quick(algorithm: u64, key: &[u8], iv: &[u8], buf: &mut [u8], n: usize, skip: usize) -> Report
     ensures { λ r. ⌜ (r .refusal ≡ givenRefusal algorithm (now (key .entry)) (now (iv .entry)) (now (buf .entry)) n skip)
-        × (now (buf .exit) ≡ given algorithm (now (key .entry)) (now (iv .entry)) (now (buf .entry)) n skip)
+        × (now (buf .exit) ≡ givenBuffer algorithm (now (key .entry)) (now (iv .entry)) (now (buf .entry)) n skip)
         × (r .blocks ≡ givenBlocks algorithm (now (key .entry)) (now (iv .entry)) (now (buf .entry)) n skip) ⌝ }
 {
     let refusal = refusal_of(algorithm, key, iv, &buf[..], n, skip);

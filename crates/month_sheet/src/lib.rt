@@ -5,8 +5,10 @@ use shares::share_of;
 use writing::put_item;
 use writing::put_line;
 ghost use mathlib.Core.Path.{_≡_};
+ghost use mathlib.Core.List.{[], _∷_, _++_};
 ghost use Prim.Native.Nat.{_+_, _*_, _/_, _%_, _<_, _≤_};
 ghost use lib.ListN.{length, getD};
+ghost use Rattle.writing.specs.Text.{lf, digits};
 ghost use Rattle.writing.specs.Writing.{Room, Put};
 ghost use Rattle.call_log.specs.Fed.{fedTo};
 ghost use Rattle.month_sheet.specs.Sheet.{
@@ -50,13 +52,20 @@ fn figure(figures: &[u64], i: usize) -> u64
     0
 }
 
-// The end of a row's line.
-fn put_share(buffer: &mut [u8], at: usize, top: u64, bottom: u64) -> usize
-    requires { ⌜ Room (now buffer) at (shareText top bottom) ⌝ }
-    ensures { λ r. ⌜ Put (now (buffer .entry)) at (shareText top bottom) (now (buffer .exit)) r ⌝ }
+// Two numbers, of which the second ends the line.
+fn put_pair<'a>(
+    buffer: &'a mut [u8],
+    at: usize,
+    name: &'a [u8],
+    n: u64,
+    last: &'a [u8],
+    m: u64,
+) -> usize
+    requires { ⌜ Room (now buffer) at ((now name ++ digits n) ++ (now last ++ (digits m ++ (lf ∷ [])))) ⌝ }
+    ensures { λ r. ⌜ Put (now (buffer .entry)) at ((now (name .entry) ++ digits n) ++ (now (last .entry) ++ (digits m ++ (lf ∷ [])))) (now (buffer .exit)) r ⌝ }
 {
-    let end = put_item(buffer, at, b" share=", top);
-    put_line(buffer, end, b"/", bottom)
+    let end = put_item(buffer, at, name, n);
+    put_line(buffer, end, last, m)
 }
 
 // A slot and direction.
@@ -78,7 +87,7 @@ fn put_row(
     let used = put_item(buffer, ciphered, b" bits=", bits);
     let share = put_item(buffer, used, b" blocks=", blocks);
     let part = share_of(bits, all);
-    put_share(buffer, share, part.top, part.bottom)
+    put_pair(buffer, share, b" share=", part.top, b"/", part.bottom)
 }
 
 fn put_rows<'a>(buffer: &'a mut [u8], at: usize, figures: &'a [u64]) -> usize
@@ -99,14 +108,6 @@ fn put_rows<'a>(buffer: &'a mut [u8], at: usize, figures: &'a [u64]) -> usize
     end
 }
 
-fn put_count(buffer: &mut [u8], at: usize, code: u64, count: u64) -> usize
-    requires { ⌜ at + longestCount ≤ length (now buffer) ⌝ }
-    ensures { λ r. ⌜ (r ≤ at + longestCount) × Put (now (buffer .entry)) at (countText code count) (now (buffer .exit)) r ⌝ }
-{
-    let end = put_item(buffer, at, b"code=", code);
-    put_line(buffer, end, b" count=", count)
-}
-
 fn put_counts<'a>(buffer: &'a mut [u8], at: usize, figures: &'a [u64]) -> usize
     requires { ⌜ at + 27 * longestCount ≤ length (now buffer) ⌝ }
     ensures { λ r. ⌜ (r ≤ at + 27 * longestCount) × Put (now (buffer .entry)) at (texts (λ code. countText code (getD (now (figures .entry)) (195 + code) 0)) 1 27) (now (buffer .exit)) r ⌝ }
@@ -114,7 +115,8 @@ fn put_counts<'a>(buffer: &'a mut [u8], at: usize, figures: &'a [u64]) -> usize
     let mut end = at;
     let mut code: usize = 1;
     while code <= CODES {
-        let next = put_count(buffer, end, code as u64, figure(figures, LINES_AT + code));
+        let count = figure(figures, LINES_AT + code);
+        let next = put_pair(buffer, end, b"code=", code as u64, b" count=", count);
         end = next;
         code += 1;
     }
@@ -127,8 +129,7 @@ fn put_total(buffer: &mut [u8], at: usize, lines: u64, calls: u64, bits: u64, bl
 {
     let accepted = put_item(buffer, at, b"lines=", lines);
     let ciphered = put_item(buffer, accepted, b" calls=", calls);
-    let used = put_item(buffer, ciphered, b" bits=", bits);
-    put_line(buffer, used, b" blocks=", blocks)
+    put_pair(buffer, ciphered, b" bits=", bits, b" blocks=", blocks)
 }
 
 fn put_sheet<'a>(buffer: &'a mut [u8], figures: &'a [u64]) -> usize
@@ -147,14 +148,6 @@ fn put_sheet<'a>(buffer: &'a mut [u8], figures: &'a [u64]) -> usize
     )
 }
 
-fn put_refused(buffer: &mut [u8], line: u64) -> usize
-    requires { ⌜ sheetRoom ≤ length (now buffer) ⌝ }
-    ensures { λ r. ⌜ (r ≤ sheetRoom) × Put (now (buffer .entry)) 0 (wrongLineText line) (now (buffer .exit)) r ⌝ }
-{
-    let end = put_item(buffer, 0, b"refused=", LOG_LINE);
-    put_line(buffer, end, b" line=", line)
-}
-
 // What is printed of a log that is read, at the front of the buffer, and its length. The bytes after it stay. A smaller buffer stays as it is, with length 0.
 pub fn print<'a>(m: Month, figures: &'a [u64], buffer: &'a mut [u8]) -> usize
     ensures { λ r. ⌜ (r ≡ printedLength (fedTo m (now (figures .entry))) (now (buffer .entry)))
@@ -167,7 +160,7 @@ pub fn print<'a>(m: Month, figures: &'a [u64], buffer: &'a mut [u8]) -> usize
     if line == 0 {
         return put_sheet(buffer, figures);
     }
-    put_refused(buffer, line)
+    put_pair(buffer, 0, b"refused=", LOG_LINE, b" line=", line)
 }
 
 // The whole of a log at once: what is printed of it, at the front of the buffer, and its length.

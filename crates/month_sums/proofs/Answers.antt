@@ -12,7 +12,7 @@ use Rattle.laws.specs.Choice.{pick}
 use Rattle.laws.proofs.Cases.{and-left, and-right, pick-cases}
 use Rattle.call_log.specs.declared.Call.{Call}
 use Rattle.call_log.specs.declared.Month.{Month}
-use Rattle.call_log.specs.Log.{Good, AllGood, callText, logText, mostLines}
+use Rattle.call_log.specs.Log.{GoodCall, AllGood, callText, logText, mostLines}
 use Rattle.call_log.specs.Fed.{Fed, fedTo, fed, lineStart, wrongLine, inNumber, partName}
 use Rattle.call_log.proofs.Feeds.{fed-append}
 use Rattle.month_sheet.specs.Sheet.{sheetText, sumsIn, wrongLineText, printedText, wholeLog}

@@ -15,7 +15,7 @@ use Rattle.laws.specs.Lists.{tabulate}
 use Rattle.laws.proofs.Lists.{length-tabulate, getD-tabulate}
 use Rattle.laws.proofs.Cases.{eq-or-ne, lt-or-le}
 use Rattle.call_log.specs.declared.Call.{Call}
-use Rattle.call_log.specs.Log.{Good, AllGood, none, more, isAccepted, isSound, mostBits, largestBlocks, mostLines}
+use Rattle.call_log.specs.Log.{GoodCall, AllGood, none, more, isAccepted, isSound, mostBits, largestBlocks, mostLines}
 use Rattle.call_log.specs.Figures.{figureCount, rowOf, totalRow, callsAt, bitsAt, blocksAt, linesAt, countAt, plus, intoRow, addedAccepted, addedRefused, added}
 use Rattle.call_log.proofs.Sizes.{plus-size, added-size}
 use Rattle.call_log.proofs.Sound.{Ranges, accepted-ranges, refused-code}
@@ -143,7 +143,7 @@ after-at (c ∷ cs) f B (more g a) s e l k =
     omega (arith, r, d .at k)
 
 -- the same sum, where each good line adds the same
-pub sum-same : (f g : Call → ℕ) (cs : List Call) → AllGood cs → ((c : Call) → Good c → f c ≡ g c) → sumOfLines f cs ≡ sumOfLines g cs
+pub sum-same : (f g : Call → ℕ) (cs : List Call) → AllGood cs → ((c : Call) → GoodCall c → f c ≡ g c) → sumOfLines f cs ≡ sumOfLines g cs
 unfolding sumOfLines
 sum-same f g [] none e = refl
 sum-same f g (c ∷ cs) (more h a) e = λ i. e c h i + sum-same f g cs a e i
@@ -251,7 +251,7 @@ module _ (c : Call) where
   amount-refused k n = rw (ne-eqb (c .code) 0 n)
 
 -- what a row gains is v of the lines that are in it
-in-row : (k row v : ℕ) (c : Call) → Good c → row ≤ 64 → k < 195
+in-row : (k row v : ℕ) (c : Call) → GoodCall c → row ≤ 64 → k < 195
     → ((r : ℕ) → r < 64 → acceptedAmount k r (c .bits) (c .blocks) ≡ pick (pick (eqb row 64) true (eqb row r)) v 0)
     → amount k c ≡ pick (inRow row c) v 0
 in-row k row v c g h l acc = ⊎-elim yes no (eq-or-ne (c .code) 0)
@@ -273,7 +273,7 @@ in-row k row v c g h l acc = ⊎-elim yes no (eq-or-ne (c .code) 0)
 
 -- a count gains 1 of the lines with its code, and the number of lines 1 of each
 
-module _ (c : Call) (g : Good c) where
+module _ (c : Call) (g : GoodCall c) where
   gains-count : (n : ℕ) → 1 ≤ n → amount (195 + n) c ≡ pick (eqb (c .code) n) 1 0
   gains-count n h = ⊎-elim yes no (eq-or-ne (c .code) 0)
     where
@@ -339,7 +339,7 @@ unfolding zeros
 zeros-size = length-tabulate (λ k. 0) 0 figureCount
 
 module _ (cs : List Call) (good : AllGood cs) (few : length cs ≤ mostLines) where
-  figure-is : (k : ℕ) (f : Call → ℕ) → ((c : Call) → Good c → amount k c ≡ f c) → getD (figuresAfter zeros cs) k 0 ≡ sumOfLines f cs
+  figure-is : (k : ℕ) (f : Call → ℕ) → ((c : Call) → GoodCall c → amount k c ≡ f c) → getD (figuresAfter zeros cs) k 0 ≡ sumOfLines f cs
   unfolding Small
   figure-is k f e =
       let a = after-at cs zeros 0 good (λ j. omega (arith, zero-at j)) zeros-size (omega arith) k in

@@ -12,7 +12,7 @@ use Rattle.laws.proofs.Cases.{and-left, and-right}
 use Rattle.writing.specs.Text.{lf}
 use Rattle.call_log.specs.declared.Call.{Call}
 use Rattle.call_log.specs.declared.Month.{Month}
-use Rattle.call_log.specs.Log.{Good, AllGood, none, callText, logText, isSound, mostLines}
+use Rattle.call_log.specs.Log.{GoodCall, AllGood, none, callText, logText, isSound, mostLines}
 use Rattle.call_log.specs.Figures.{added}
 use Rattle.call_log.specs.Fed.{Fed, fedTo, fed, fedByte, lineStart, stopped, finalPart, inNumber, inLine, endsLine, ended, taken, callOf}
 use Rattle.call_log.proofs.Feeds.{fed-append}

@@ -14,7 +14,7 @@ use Rattle.writing.specs.Text.{ascii, lf, digits, item, lineText}
 use Rattle.writing.proofs.Digits.{digits-one, digits-ten}
 use Rattle.call_log.specs.declared.Call.{Call}
 use Rattle.call_log.specs.declared.Month.{Month}
-use Rattle.call_log.specs.Log.{Good, callText, isSound, mostLines}
+use Rattle.call_log.specs.Log.{GoodCall, callText, isSound, mostLines}
 use Rattle.call_log.specs.Figures.{added}
 use Rattle.call_log.specs.Fed.{Fed, fedTo, fed, fedByte, lineStart, soFar, inNumber, nextPart, highOf, nameByte, partName, inLine, afterDigit, firstDigit, ofName, endsLine, ended, taken, callOf}
 use Rattle.call_log.proofs.Feeds.{fed-append}
@@ -112,7 +112,7 @@ ended-good : (m : Month) (figures : List ℕ) → m .line ≤ mostLines → isSo
 unfolding ended taken
 ended-good m figures h e = rw (le-leb (m .line) mostLines h, e)
 
-pub line-fed : (c : Call) (line : ℕ) (figures : List ℕ) → Good c → line ≤ mostLines
+pub line-fed : (c : Call) (line : ℕ) (figures : List ℕ) → GoodCall c → line ≤ mostLines
     → fed (fedTo (lineStart line) figures) (callText c) ≡ fedTo (lineStart (line + 1)) (added figures c)
 unfolding callText highOf nameByte partName
 line-fed c line figures g h =

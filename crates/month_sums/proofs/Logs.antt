@@ -11,7 +11,7 @@ use Rattle.laws.proofs.Cases.{pick-cases}
 use Rattle.forms.specs.Decimals.{mayBegin, mayFollow}
 use Rattle.call_log.specs.declared.Call.{Call}
 use Rattle.call_log.specs.declared.Month.{Month}
-use Rattle.call_log.specs.Log.{Good, AllGood, none, more, callText, logText, mostLines}
+use Rattle.call_log.specs.Log.{GoodCall, AllGood, none, more, callText, logText, mostLines}
 use Rattle.call_log.specs.Figures.{added}
 use Rattle.call_log.specs.Fed.{Fed, fedTo, fed, fedByte, lineStart, stopped, soFar, nextPart, highOf, nameByte, finalPart, inNumber, inLine, afterDigit, firstDigit, ofName, endsLine, ended, taken, callOf}
 use Rattle.call_log.proofs.Feeds.{fed-append}
@@ -35,7 +35,7 @@ module _ (c : Call) where
   figures-more f [] = refl
   figures-more f (d ∷ cs) = figures-more (added f d) cs
 
-  pub good-more : {cs : List Call} → Good c → AllGood cs → AllGood (cs ++ (c ∷ []))
+  pub good-more : {cs : List Call} → GoodCall c → AllGood cs → AllGood (cs ++ (c ∷ []))
   good-more g none = more g none
   good-more g (more h a) = more h (good-more g a)
 

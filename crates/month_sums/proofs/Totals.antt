@@ -13,7 +13,7 @@ use Rattle.laws.proofs.Cases.{eq-or-ne, lt-or-le}
 use Rattle.shares.specs.Share.{shareOf, LowestShare}
 use Rattle.shares.proofs.Lowest.{share-lowest}
 use Rattle.call_log.specs.declared.Call.{Call}
-use Rattle.call_log.specs.Log.{Good, AllGood, none, more}
+use Rattle.call_log.specs.Log.{GoodCall, AllGood, none, more}
 use Rattle.call_log.specs.Figures.{rowOf, totalRow}
 use Rattle.call_log.proofs.Sound.{accepted-ranges, refused-code}
 use Rattle.month_sums.specs.Sums.{sumOfLines, inRow, sumsOver, sumTo}
@@ -70,7 +70,7 @@ over-both f g [] = refl
 over-both f g (c ∷ cs) = omega (arith, over-both f g cs)
 
 -- a good line is in one row of the slots where it is accepted, and then in the total's; else in none
-one-row : (c : Call) → Good c → (v : ℕ) → sumTo (λ row. pick (inRow row c) v 0) 64 ≡ pick (inRow 64 c) v 0
+one-row : (c : Call) → GoodCall c → (v : ℕ) → sumTo (λ row. pick (inRow row c) v 0) 64 ≡ pick (inRow 64 c) v 0
 one-row c g v = ⊎-elim yes no (eq-or-ne (c .code) 0)
   where
     yes : c .code ≡ 0 → sumTo (λ row. pick (inRow row c) v 0) 64 ≡ pick (inRow 64 c) v 0
@@ -87,7 +87,7 @@ one-row c g v = ⊎-elim yes no (eq-or-ne (c .code) 0)
         ∙ (to-none 64 ∙ ap (λ (t : Bool). pick t v 0) (sym (in-refused c 64 n)))
 
 -- a good line is accepted, or is in one count
-one-count : (c : Call) → Good c → pick (inRow 64 c) 1 0 + sumTo (λ i. pick (eqb (c .code) (i + 1)) 1 0) 27 ≡ 1
+one-count : (c : Call) → GoodCall c → pick (inRow 64 c) 1 0 + sumTo (λ i. pick (eqb (c .code) (i + 1)) 1 0) 27 ≡ 1
 one-count c g = ⊎-elim yes no (eq-or-ne (c .code) 0)
   where
     counts : (i : ℕ) → 1 ≤ c .code → _≡_ {A = ℕ} (pick (eqb (c .code) (i + 1)) 1 0) (hit i (c .code - 1) 1)

@@ -4,13 +4,13 @@ use mathlib.Core.Path.{_≡_}
 use Prim.Native.Nat.{ℕ, _+_, _≤_, _<_}
 use lib.ListN.{length}
 use Rattle.call_log.specs.declared.Call.{Call}
-use Rattle.call_log.specs.Log.{Good, AllGood, callText, logText, mostLines}
+use Rattle.call_log.specs.Log.{GoodCall, AllGood, callText, logText, mostLines}
 use Rattle.month_sheet.specs.Sheet.{sheetText, wrongLineText}
 use Rattle.month_sums.specs.Sums.{sumsOver}
 
 -- a text does not begin with a good line
 pub record NoGoodLine (text : List ℕ) : Type 0 where
-  pub none : (c : Call) (rest : List ℕ) → Good c → text ≡ callText c ++ rest → ⊥
+  pub none : (c : Call) (rest : List ℕ) → GoodCall c → text ≡ callText c ++ rest → ⊥
 
 -- a log whose lines are all good
 pub record GoodLog (log printed : List ℕ) : Type 0 where

@@ -15,8 +15,8 @@ abbrev pub givenRefusal : ℕ → List ℕ → List ℕ → List ℕ → ℕ →
 givenRefusal algorithm key iv buf n skip = keyedRefusal algorithm (length key) (length iv) (length buf) 0 n skip
 
 -- the buffer afterwards: its bit i, for i below n, is keystream bit skip + i, and a refusal changes nothing
-unfoldable pub given : ℕ → List ℕ → List ℕ → List ℕ → ℕ → ℕ → List ℕ
-given algorithm key iv buf n skip =
+unfoldable pub givenBuffer : ℕ → List ℕ → List ℕ → List ℕ → ℕ → ℕ → List ℕ
+givenBuffer algorithm key iv buf n skip =
     pick (eqb (givenRefusal algorithm key iv buf n skip) done) (written buf (keystream algorithm key iv) 0 skip n) buf
 
 -- the blocks reported

@@ -4,7 +4,7 @@ ghost use Prim.Native.Nat.{_+_, _-_, _*_, _<_, _≤_, min};
 ghost use lib.ListN.{length};
 ghost use Rattle.span.specs.Span.{xored, written, streamBit, blocksUsed};
 ghost use Rattle.tea.specs.Keystream.{blockOf};
-ghost use Rattle.plain.specs.Given.{givenRefusal, given, givenBlocks};
+ghost use Rattle.plain.specs.Given.{givenRefusal, givenBuffer, givenBlocks};
 use crate::blocks::block;
 use crate::mode::mode_of;
 use tea::mode::Mode;
@@ -65,7 +65,7 @@ pub extern "C" fn card_plain(
     blocks: &mut usize,
 ) -> u8
     ensures { λ r. ⌜ (r ≡ givenRefusal algorithm (now (key .entry)) (now (iv .entry)) (now (buf .entry)) n skip)
-        × (now (buf .exit) ≡ given algorithm (now (key .entry)) (now (iv .entry)) (now (buf .entry)) n skip)
+        × (now (buf .exit) ≡ givenBuffer algorithm (now (key .entry)) (now (iv .entry)) (now (buf .entry)) n skip)
         × (now (blocks .exit) ≡ givenBlocks algorithm (now (key .entry)) (now (iv .entry)) (now (buf .entry)) n skip) ⌝ }
 {
     *blocks = 0;

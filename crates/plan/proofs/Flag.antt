@@ -10,7 +10,7 @@ use Rattle.laws.specs.Choice.{pick}
 use Rattle.laws.proofs.Cases.{eq-or-ne}
 use Rattle.refusals.specs.Numbers.{done, pduCodeUnknown, pduPartsDontFit, refuse}
 use Rattle.plan.specs.declared.Plan.{Plan}
-use Rattle.plan.specs.Plan.{codesUnknown, partsDontFit, planRefusal, refused, plannedPieces, planOf}
+use Rattle.plan.specs.Plan.{codesUnknown, partsDontFit, planRefusal, refusedPlan, plannedPieces, planOf}
 
 above : (k : ℕ) → (k ≡ 0 → ⊥) → (k ≡ 1 → ⊥) → (k ≡ 2 → ⊥) → (k ≡ 3 → ⊥) → 3 < k
 above zero n0 n1 n2 n3 = absurd (n0 refl)
@@ -29,7 +29,7 @@ module _ (kind state f g l a s : ℕ) (hf : f ≤ 1) (hg : g ≤ 1) where
   unfolding planOf planRefusal
   alike parts pieces i =
       let r = refuse (codes i) pduCodeUnknown (refuse (parts i) pduPartsDontFit done) in
-      pick (eqb r done) (pieces i) (refused r)
+      pick (eqb r done) (pieces i) (refusedPlan r)
 
   -- refused with 18, whatever the flag
   unknown : codesUnknown kind state f l ≡ true → planOf kind state f l a s ≡ planOf kind state g l a s

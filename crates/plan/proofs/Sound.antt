@@ -10,7 +10,7 @@ use Rattle.laws.proofs.Cases.{neither, pick-cases, pick-both, pick-else}
 use Rattle.refusals.specs.Numbers.{done}
 use Rattle.plan.specs.declared.Piece.{Piece}
 use Rattle.plan.specs.declared.Plan.{Plan}
-use Rattle.plan.specs.Plan.{syncOnSchS, longestPdu, addressBits, noPiece, restFrom, addressFrom, byCase, clearHead, secondSkip, keystreamBits, pastKeystream, codesUnknown, partsDontFit, planRefusal, refused, plannedPieces, planOf}
+use Rattle.plan.specs.Plan.{syncOnSchS, longestPdu, addressBits, noPiece, restFrom, addressFrom, byCase, clearHead, secondSkip, keystreamBits, pastKeystream, codesUnknown, partsDontFit, planRefusal, refusedPlan, plannedPieces, planOf}
 
 -- a piece of a buffer of l bits that traffic accepts: not empty, within the buffer, and within the keystream
 pub record Taken (l : ℕ) (p : Piece) : Type 0 where
@@ -103,6 +103,6 @@ module _ (kind state flag l a s : ℕ) where
       rw (eq-eqb _ _ e) (planned-sound e .1)
 
   -- a refused plan has no piece
-  pub plan-refused : (planOf kind state flag l a s .refusal ≡ done → ⊥) → planOf kind state flag l a s ≡ refused (planRefusal kind state flag l a s)
+  pub plan-refused : (planOf kind state flag l a s .refusal ≡ done → ⊥) → planOf kind state flag l a s ≡ refusedPlan (planRefusal kind state flag l a s)
   unfolding planOf
   plan-refused h = rw (ne-eqb _ _ (λ e. h (plan-number ∙ e)))

@@ -12,7 +12,7 @@ use Rattle.laws.proofs.Cases.{lt-or-le, eq-or-ne, neither, and-left, and-right}
 use Rattle.refusals.specs.Numbers.{done, pduCodeUnknown, pduPartsDontFit, refuse}
 use Rattle.plan.specs.declared.Plan.{Plan}
 use Rattle.plan.specs.declared.Piece.{Piece}
-use Rattle.plan.specs.Plan.{syncOnSchS, longestPdu, addressBits, noPiece, restFrom, addressFrom, byCase, clearHead, secondSkip, keystreamBits, pastKeystream, codesUnknown, partsDontFit, planRefusal, withPieces, refused, plannedPieces, planOf}
+use Rattle.plan.specs.Plan.{syncOnSchS, longestPdu, addressBits, noPiece, restFrom, addressFrom, byCase, clearHead, secondSkip, keystreamBits, pastKeystream, codesUnknown, partsDontFit, planRefusal, withPieces, refusedPlan, plannedPieces, planOf}
 
 -- the old reading: n keystream bits are passed over, and the keystream's end is not looked at
 abbrev pub oldSkip : ℕ → ℕ → ℕ
@@ -38,7 +38,7 @@ oldPieces kind state flag l a s =
 unfoldable pub answer : Bool → Bool → Plan → Plan
 answer codes parts pieces =
     let number = refuse codes pduCodeUnknown (refuse parts pduPartsDontFit done) in
-    pick (eqb number done) pieces (refused number)
+    pick (eqb number done) pieces (refusedPlan number)
 
 abbrev pub oldPlan : ℕ → ℕ → ℕ → ℕ → ℕ → ℕ → Plan
 oldPlan kind state flag l a s =
@@ -164,7 +164,7 @@ module _ (kind flag l a s : ℕ) (n : kind ≡ syncOnSchS → ⊥) where
   within h e = let f = fitted h in (old-third ∙ rw (f .0, f .1), new-third ∙ rw (f .0, f .1, e) (ap pieces (one-later a s)))
 
 module _ (kind flag s : ℕ) (k : (kind ≡ 1) ⊎ (kind ≡ 2)) (f : flag ≤ 1) (behind : 24 ≤ s) (some : s < 8288) where
-  past-refused : (oldPlan kind 3 flag 8288 0 s .refusal ≡ done) × (planOf kind 3 flag 8288 0 s ≡ refused pduPartsDontFit)
+  past-refused : (oldPlan kind 3 flag 8288 0 s .refusal ≡ done) × (planOf kind 3 flag 8288 0 s ≡ refusedPlan pduPartsDontFit)
   unfolding answer
   past-refused =
       let w : (1 ≤ kind) × (kind ≤ 2) = ⊎-elim (λ e. (omega arith, omega arith)) (λ e. (omega arith, omega arith)) k in
@@ -219,7 +219,7 @@ module _ (kind state flag l a s : ℕ) where
 
   -- and each of these was accepted, and is refused with 19
   pub past-is-refused : PastTheLast kind state flag l a s
-      → (oldPlan kind state flag l a s .refusal ≡ done) × (planOf kind state flag l a s ≡ refused pduPartsDontFit)
+      → (oldPlan kind state flag l a s .refusal ≡ done) × (planOf kind state flag l a s ≡ refusedPlan pduPartsDontFit)
   past-is-refused p =
       rw (p .state-3, p .longest, p .first) (past-refused kind flag s (p .kinds) (p .flags) (p .behind) (p .some))
 

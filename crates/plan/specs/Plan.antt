@@ -84,8 +84,8 @@ planRefusal kind state flag l a s =
 abbrev pub withPieces : Piece → Piece → Plan
 withPieces first second = record { refusal = done; first = first; second = second }
 
-abbrev pub refused : ℕ → Plan
-refused number = record { refusal = number; first = noPiece; second = noPiece }
+abbrev pub refusedPlan : ℕ → Plan
+refusedPlan number = record { refusal = number; first = noPiece; second = noPiece }
 
 -- the pieces, case by case
 unfoldable pub plannedPieces : ℕ → ℕ → ℕ → ℕ → ℕ → ℕ → Plan
@@ -101,4 +101,4 @@ unfoldable pub planOf : ℕ → ℕ → ℕ → ℕ → ℕ → ℕ → Plan
 planOf kind state flag l a s =
     pick (eqb (planRefusal kind state flag l a s) done)
     (plannedPieces kind state flag l a s)
-    (refused (planRefusal kind state flag l a s))
+    (refusedPlan (planRefusal kind state flag l a s))

@@ -3,7 +3,7 @@ ghost use mathlib.Core.Path.{_≡_};
 ghost use Prim.Native.Nat.{_+_, _≤_};
 ghost use lib.Dec.{ltb};
 ghost use Rattle.refusals.specs.Numbers.{done};
-ghost use Rattle.plan.specs.Plan.{addressBits, restFrom, addressFrom, clearHead, secondSkip, longestPdu, pastKeystream, codesUnknown, partsDontFit, planRefusal, withPieces, refused, plannedPieces, planOf};
+ghost use Rattle.plan.specs.Plan.{addressBits, restFrom, addressFrom, clearHead, secondSkip, longestPdu, pastKeystream, codesUnknown, partsDontFit, planRefusal, withPieces, refusedPlan, plannedPieces, planOf};
 use refusals::DONE;
 use refusals::PDU_CODE;
 use refusals::PDU_PARTS;
@@ -73,8 +73,8 @@ fn with_pieces(first: Piece, second: Piece) -> Plan
     }
 }
 
-pub fn refused(number: u8) -> Plan
-    ensures { λ r. ⌜ r ≡ refused number ⌝ }
+pub fn refused_plan(number: u8) -> Plan
+    ensures { λ r. ⌜ r ≡ refusedPlan number ⌝ }
 {
     Plan {
         refusal: number,
@@ -196,7 +196,7 @@ pub fn plan_pdu(kind: u64, state: u64, flag: u64, length: usize, address: usize,
 {
     let refusal = plan_refusal(kind, state, flag, length, address, sdu);
     if refusal != DONE {
-        return refused(refusal);
+        return refused_plan(refusal);
     }
     planned_pieces(kind, state, flag, length, address, sdu)
 }

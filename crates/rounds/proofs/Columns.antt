@@ -13,7 +13,7 @@ use Rattle.laws.specs.Lists.{cell, grid, tabulate}
 use Rattle.laws.proofs.States.{Shape, put, Placed, Apart, place-more, columns-all, grid-at}
 use Rattle.laws.proofs.Tests.{agree}
 use Rattle.gf256.specs.Field.{sBox}
-use Rattle.words.specs.Words.{byteOf, bytesOf}
+use Rattle.words.specs.Words.{byteOf, wordBytes}
 use Rattle.rounds.specs.Steps.{byteSub, shiftOf, shiftRow, mixedByte, mixColumn, addRoundKey, roundOf}
 use Rattle.rounds.specs.Columns.{ofWords, mixedColumn}
 use Rattle.words.proofs.Bytes.{sum-byte, summed}
@@ -39,7 +39,7 @@ below-four P a b c d (suc (suc zero)) h = c
 below-four P a b c d (suc (suc (suc zero))) h = d
 below-four P a b c d (suc (suc (suc (suc r)))) h = absurd (omega arith)
 
-pub pack-more : {f : ℕ → ℕ → ℕ} {x : List ℕ} {n : ℕ} → Packed f x n → n < 8 → (v : ℕ) → bytesOf v ≡ f 0 n ∷ f 1 n ∷ f 2 n ∷ f 3 n ∷ [] → Packed f (set x n v) (n + 1)
+pub pack-more : {f : ℕ → ℕ → ℕ} {x : List ℕ} {n : ℕ} → Packed f x n → n < 8 → (v : ℕ) → wordBytes v ≡ f 0 n ∷ f 1 n ∷ f 2 n ∷ f 3 n ∷ [] → Packed f (set x n v) (n + 1)
 pack-more {f} {x} {n} g h v e = record { upto = omega arith; size = length-set x n v ∙ g .size; bytes = at }
   where
     l : n < length x
@@ -81,7 +81,7 @@ abbrev pub firstKeyed : List ℕ → List (List ℕ) → ℕ → ℕ → ℕ
 firstKeyed w s r c = bitXor (cell s r c) (byteOf (getD w (8 * 0 + c) 0) r)
 
 -- one word more: a column's, with its word of the key
-pub keyed-more : (w : List ℕ) (s : List (List ℕ)) {x : List ℕ} {c : ℕ} → Packed (firstKeyed w s) x c → c < 8 → (v : ℕ) → bytesOf v ≡ cell s 0 c ∷ cell s 1 c ∷ cell s 2 c ∷ cell s 3 c ∷ []
+pub keyed-more : (w : List ℕ) (s : List (List ℕ)) {x : List ℕ} {c : ℕ} → Packed (firstKeyed w s) x c → c < 8 → (v : ℕ) → wordBytes v ≡ cell s 0 c ∷ cell s 1 c ∷ cell s 2 c ∷ cell s 3 c ∷ []
     → Packed (firstKeyed w s) (set x c (bitXor v (getD w c 0))) (c + 1)
 keyed-more w s {x} {c} g h v e =
     let q : 8 * 0 + c ≡ c = omega arith in
@@ -146,7 +146,7 @@ module _ (w : List ℕ) (n : ℕ) (s : List (List ℕ)) {t : List (List ℕ)} {e
   abbrev key : ℕ
   key = getD w (8 * n + at) 0
 
-  pub round-more : (v : ℕ) → bytesOf v ≡ mixedColumn in-0 in-1 in-2 in-3
+  pub round-more : (v : ℕ) → wordBytes v ≡ mixedColumn in-0 in-1 in-2 in-3
       → (a b c d : ℕ) → a ≡ byteOf (bitXor key v) 0 → b ≡ byteOf (bitXor key v) 1 → c ≡ byteOf (bitXor key v) 2 → d ≡ byteOf (bitXor key v) 3
       → Placed byHalf (rounded w n s) (put (put (put (put t 0 at a) 1 at b) 2 at c) 3 at d) (4 * (e + 1))
   round-more v m a b c d pa pb pc pd =

@@ -7,7 +7,7 @@ use Rattle.laws.proofs.Xor.{xor-assoc}
 use Rattle.gf256.specs.Field.{times, sBox}
 use Rattle.gf256.proofs.Bounds.{times-lt, s-box-lt}
 use Rattle.products.specs.Products.{share}
-use Rattle.words.specs.Words.{join, bytesOf}
+use Rattle.words.specs.Words.{join, wordBytes}
 use Rattle.words.proofs.Bytes.{joined, summed}
 use Rattle.rounds.specs.Steps.{mixedByte}
 use Rattle.rounds.specs.Columns.{mixedColumn}
@@ -34,14 +34,14 @@ module _ (x y z u : ℕ) (hx : x < 256) (hy : y < 256) (hz : z < 256) (hu : u < 
   placed b r = join (share (sBox b) (r + 3)) (share (sBox b) (r + 2)) (share (sBox b) (r + 1)) (share (sBox b) r)
 
   pub column : (v : ℕ) → v ≡ bitXor (bitXor (bitXor (placed x 0) (placed y 1)) (placed z 2)) (placed u 3)
-      → bytesOf v ≡ mixedColumn (sBox x) (sBox y) (sBox z) (sBox u)
+      → wordBytes v ≡ mixedColumn (sBox x) (sBox y) (sBox z) (sBox u)
   unfolding share mixedByte
   column v e =
       let a = s-box-lt x hx in
       let b = s-box-lt y hy in
       let c = s-box-lt z hz in
       let d = s-box-lt u hu in
-      ap bytesOf e
+      ap wordBytes e
       ∙ summed (bitXor (bitXor (placed x 0) (placed y 1)) (placed z 2)) (placed u 3)
       (summed (bitXor (placed x 0) (placed y 1)) (placed z 2)
       (summed (placed x 0) (placed y 1)

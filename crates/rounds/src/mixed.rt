@@ -3,7 +3,7 @@ ghost use mathlib.Core.Path.{_≡_};
 ghost use Prim.Native.Nat.{_+_, _<_};
 ghost use Rattle.gf256.specs.Field.{sBox};
 ghost use Rattle.products.specs.Products.{share, products};
-ghost use Rattle.words.specs.Words.{join, bytesOf};
+ghost use Rattle.words.specs.Words.{join, wordBytes};
 ghost use Rattle.rounds.specs.Columns.{mixedColumn};
 use words::join_bytes;
 
@@ -19,7 +19,7 @@ fn in_row(mixes: &[u8; 2048], b: u8, r: usize) -> u32
 // The mixed column of the bytes a, b, c, d of rows 0 to 3, each through the S-box.
 pub fn mixed_word(mixes: &[u8; 2048], a: u8, b: u8, c: u8, d: u8) -> u32
     requires { ⌜ now mixes ≡ products ⌝ }
-    ensures { λ x. ⌜ bytesOf x ≡ mixedColumn (sBox a) (sBox b) (sBox c) (sBox d) ⌝ }
+    ensures { λ x. ⌜ wordBytes x ≡ mixedColumn (sBox a) (sBox b) (sBox c) (sBox d) ⌝ }
 {
     in_row(mixes, a, 0) ^ in_row(mixes, b, 1) ^ in_row(mixes, c, 2) ^ in_row(mixes, d, 3)
 }

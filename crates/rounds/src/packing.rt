@@ -2,7 +2,7 @@
 ghost use mathlib.Core.Path.{_≡_};
 ghost use mathlib.Core.List.{[], _∷_};
 ghost use lib.ListN.{length};
-ghost use Rattle.words.specs.Words.{bytesOf};
+ghost use Rattle.words.specs.Words.{wordBytes};
 ghost use Rattle.rounds.specs.Steps.{addRoundKey};
 ghost use Rattle.rounds.specs.Columns.{ofWords};
 use words::byte0;
@@ -12,7 +12,7 @@ use words::byte3;
 use words::join_bytes;
 
 fn column_word(a: u8, b: u8, c: u8, d: u8) -> u32
-    ensures { λ x. ⌜ bytesOf x ≡ a ∷ b ∷ c ∷ d ∷ [] ⌝ }
+    ensures { λ x. ⌜ wordBytes x ≡ a ∷ b ∷ c ∷ d ∷ [] ⌝ }
 {
     join_bytes(a, b, c, d)
 }

@@ -14,7 +14,7 @@ use Rattle.span.specs.Span.{xored}
 use Rattle.span.proofs.Laws.{xored-inside}
 use Rattle.span.proofs.Stream.{stream-lt}
 use Rattle.keystream.specs.Stream.{keystream}
-use Rattle.keystream.proofs.Known.{known}
+use Rattle.known_bits.proofs.Known.{known}
 use Rattle.ciphering.specs.Span.{spanRefusal}
 use Rattle.traffic.specs.Traffic.{useRefusalOf, useRefusal, trafficRefusalOf, trafficRefusal, trafficked}
 use Rattle.traffic.proofs.Laws.{traffic-accepted}

@@ -13,7 +13,7 @@ use Rattle.slots.specs.Calls.{slotRefusalOf}
 use Rattle.slots.proofs.Alike.{same-fields, same-empty}
 use Rattle.slots.proofs.AsSeen.{Same, unlooked}
 use Rattle.plan.specs.declared.Plan.{Plan}
-use Rattle.plan.specs.Plan.{planRefusal, refused}
+use Rattle.plan.specs.Plan.{planRefusal, refusedPlan}
 use Rattle.plan.proofs.Sound.{plan-number, plan-sound}
 use Rattle.traffic.specs.Traffic.{slotStream, useRefusalOf}
 use Rattle.traffic.proofs.Passed.{use-passed-of}
@@ -32,7 +32,7 @@ module _ (bad : Bool) (s : Slot) (direction number : ℕ) (iv buf : List ℕ) (u
   unfolding judgedPlan wholeRefusalOf
   judged-number = go (eqb opened done)
     where
-      go : (b : Bool) → pick b (wholePlan buf u) (refused opened) .refusal
+      go : (b : Bool) → pick b (wholePlan buf u) (refusedPlan opened) .refusal
           ≡ refuse (not b) opened (planRefusal (u .kind) (u .state) (flagOf u buf) (u .length) (u .address) (u .sdu))
       go true = plan-number (u .kind) (u .state) (flagOf u buf) (u .length) (u .address) (u .sdu)
       go false = refl

@@ -14,7 +14,7 @@ use Rattle.slots.specs.declared.Slot.{Slot}
 use Rattle.slots.specs.Slots.{hasBad, slotAt}
 use Rattle.plan.specs.declared.Piece.{Piece}
 use Rattle.plan.specs.declared.Plan.{Plan}
-use Rattle.plan.specs.Plan.{planRefusal, refused, planOf}
+use Rattle.plan.specs.Plan.{planRefusal, refusedPlan, planOf}
 use Rattle.span.specs.Span.{longestBuffer}
 use Rattle.keystream.specs.declared.Run.{Run}
 use Rattle.keystream.specs.Work.{throughRun, blocksOver, Fits, Later}
@@ -85,7 +85,7 @@ unfoldable pub judgedPlan : Bool → Slot → ℕ → ℕ → List ℕ → List 
 judgedPlan bad slot direction number iv buf u =
     pick (eqb (openRefusalOf bad slot direction number iv (length buf) (u .length)) done)
     (wholePlan buf u)
-    (refused (openRefusalOf bad slot direction number iv (length buf) (u .length)))
+    (refusedPlan (openRefusalOf bad slot direction number iv (length buf) (u .length)))
 
 -- all that a call with this plan answers
 abbrev pub wholeAfter : Plan → Slot → List ℕ → List ℕ → Ciphered

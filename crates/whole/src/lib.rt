@@ -107,7 +107,7 @@ pub fn judged_plan(
 {
     let open = open_refusal(bad, f, direction, number, iv, buf.len(), pdu.length);
     if open != refusals::DONE {
-        return plan::refused(open);
+        return plan::refused_plan(open);
     }
     plan_of(pdu, buf)
 }

@@ -5,12 +5,12 @@ use Prim.Native.Nat.{ℕ, zero, suc, _+_, _*_, _/_, _%_, _^_, _<_}
 use native.Mathlib.Omega.{arith}
 use lib.Bits.{bitXor, xor-shr, xor-mod}
 use lib.ListN.{getD}
-use Rattle.words.specs.Words.{join, byteOf, bytesOf}
+use Rattle.words.specs.Words.{join, byteOf, wordBytes}
 
 low : (q a b : ℕ) → q ≡ a * 256 + b → b < 256 → q % 256 ≡ b
 low q a b e h = omega arith
 
-pub joined : (a b c d : ℕ) → a < 256 → b < 256 → c < 256 → d < 256 → bytesOf (join a b c d) ≡ a ∷ b ∷ c ∷ d ∷ []
+pub joined : (a b c d : ℕ) → a < 256 → b < 256 → c < 256 → d < 256 → wordBytes (join a b c d) ≡ a ∷ b ∷ c ∷ d ∷ []
 joined a b c d ha hb hc hd =
     let p : join a b c d / 16777216 ≡ a = omega arith in
     let q : join a b c d / 65536 ≡ a * 256 + b = omega arith in
@@ -34,8 +34,8 @@ sum-byte (suc (suc zero)) = sum-at 8
 sum-byte (suc (suc (suc zero))) = sum-at 0
 sum-byte (suc (suc (suc (suc r)))) = sum-at 0
 
-pub summed : (x y : ℕ) {a b c d e f g h : ℕ} → bytesOf x ≡ a ∷ b ∷ c ∷ d ∷ [] → bytesOf y ≡ e ∷ f ∷ g ∷ h ∷ []
-    → bytesOf (bitXor x y) ≡ bitXor a e ∷ bitXor b f ∷ bitXor c g ∷ bitXor d h ∷ []
+pub summed : (x y : ℕ) {a b c d e f g h : ℕ} → wordBytes x ≡ a ∷ b ∷ c ∷ d ∷ [] → wordBytes y ≡ e ∷ f ∷ g ∷ h ∷ []
+    → wordBytes (bitXor x y) ≡ bitXor a e ∷ bitXor b f ∷ bitXor c g ∷ bitXor d h ∷ []
 summed x y p q =
     (λ i. sum-byte 0 x y i ∷ sum-byte 1 x y i ∷ sum-byte 2 x y i ∷ sum-byte 3 x y i ∷ [])
     ∙ (λ i. bitXor (getD (p i) 0 0) (getD (q i) 0 0) ∷ bitXor (getD (p i) 1 0) (getD (q i) 1 0) ∷ bitXor (getD (p i) 2 0) (getD (q i) 2 0) ∷ bitXor (getD (p i) 3 0) (getD (q i) 3 0) ∷ [])

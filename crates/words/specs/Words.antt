@@ -12,5 +12,5 @@ abbrev pub byteOf : ℕ → ℕ → ℕ
 byteOf x r = x / getD (16777216 ∷ 65536 ∷ 256 ∷ 1 ∷ []) r 1 % 256
 
 -- its four bytes
-abbrev pub bytesOf : ℕ → List ℕ
-bytesOf x = byteOf x 0 ∷ byteOf x 1 ∷ byteOf x 2 ∷ byteOf x 3 ∷ []
+abbrev pub wordBytes : ℕ → List ℕ
+wordBytes x = byteOf x 0 ∷ byteOf x 1 ∷ byteOf x 2 ∷ byteOf x 3 ∷ []

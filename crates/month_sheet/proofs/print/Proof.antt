@@ -1,9 +1,11 @@
 -- `month_sheet::print`: the sheet or the line, where there is room. Assumes nothing.
 use mathlib.Core.Path.{refl, sym, ap, _∙_}
+use native.Mathlib.Omega.{arith}
 use borrow.Author.Tests.{lt-ltb, eq-eqb, ne-eqb}
 use Rattle.writing.proofs.Puts.{put-as}
 use Rattle.call_log.specs.Fed.{fedTo, wrongLine}
 use Rattle.month_sheet.specs.Sheet.{sheetText, sumsIn, wrongLineText, printedText, printedLength, printedBuffer}
+use Rattle.month_sheet.proofs.Lengths.{refused-short}
 use Rattle.month_sheet.proofs.Printed.{printed, printed-sheet, printed-refused}
 use borrow.Author.Needs.{needs}
 use Rattle.month_sheet.proofs.print.Statement.{statement}
@@ -19,12 +21,20 @@ returns-2 c =
     let put = c .before .before .put-sheet .ensures in
     printed f _ (c .before .before .before .before .before .before .if1 .left) (put .0) (put-as (sym (printed-sheet f (sym (c .before .before .before .before .before .wrong-line .ensures) ∙ c .before .before .before .before .if2 .taken))) (put .1))
 
+put-pair-requires : tie.Need-put-pair-requires
+unfolding wrongLineText
+put-pair-requires c κs = record { fits = omega (arith, refused-short (c .before .before .before .before .wrong-line .result) (search needs)) }
+
 returns-3 : tie.Need-returns-3
+unfolding wrongLineText
 returns-3 c =
-    let f = fedTo (c .before .before .before .before .before .before .before .before .before .args .m) (c .before .before .before .before .before .before .before .before .before .args .figures .now) in
-    let put = c .before .before .put-refused .ensures in
-    printed f _ (c .before .before .before .before .before .before .if1 .left) (put .0)
-    (put-as (ap wrongLineText (c .before .before .before .before .before .wrong-line .ensures) ∙ sym (printed-refused f (λ e. c .before .before .before .before .if2 .left (c .before .before .before .before .before .wrong-line .ensures ∙ e)))) (put .1))
+    let start = c .before .before .before .before .before .before .before .before .before .before .before in
+    let read = c .before .before .before .before .before .before .before in
+    let f = fedTo (start .args .m) (start .args .figures .now) in
+    let line = read .wrong-line .ensures in
+    let put = c .before .before .put-pair .ensures in
+    printed f _ (read .before .if1 .left) (omega (arith, put .ends, refused-short (read .wrong-line .result) (search needs)))
+    (put-as (ap wrongLineText line ∙ sym (printed-refused f (λ e. c .before .before .before .before .before .before .if2 .left (line ∙ e)))) put)
 
 pub print-spec : {M : Type 1} → statement M
 print-spec =
@@ -35,6 +45,8 @@ print-spec =
     (λ c κs. search needs)
     (λ c. search needs)
     returns-2
-    (λ c κs. search needs)
+    (λ c. search needs)
+    (λ c. search needs)
+    put-pair-requires
     (λ c. search needs)
     returns-3)

@@ -41,17 +41,17 @@ put-item-requires-5 : tie.Need-put-item-requires-5
 unfolding rowText
 put-item-requires-5 c κs = next-room _ (whole (c .before .before .before .before .before .before .before .before .before .before .before .before .before .before .before .before .before .before .before .before .before .before .before)) (left-next (left-next (left-next (left-next left-all (c .before .before .before .before .before .before .before .before .before .before .before .before .before .before .before .before .before .before .before .put-item .ensures)) (c .before .before .before .before .before .before .before .before .before .before .before .before .before .before .put-item2 .ensures)) (c .before .before .before .before .before .before .before .before .before .put-item3 .ensures)) (c .before .before .before .before .put-item4 .ensures))
 
-put-share-requires : tie.Need-put-share-requires
-unfolding rowText
-put-share-requires c κs =
-    room-as (sym (ap (λ s. shareText (s .top) (s .bottom)) (c .before .share-of .ensures)))
-    (left-room (whole (c .before .before .before .before .before .before .before .before .before .before .before .before .before .before .before .before .before .before .before .before .before .before .before .before .before .before .before .before)) (left-next (left-next (left-next (left-next (left-next left-all (c .before .before .before .before .before .before .before .before .before .before .before .before .before .before .before .before .before .before .before .before .before .before .before .before .put-item .ensures)) (c .before .before .before .before .before .before .before .before .before .before .before .before .before .before .before .before .before .before .before .put-item2 .ensures)) (c .before .before .before .before .before .before .before .before .before .before .before .before .before .before .put-item3 .ensures)) (c .before .before .before .before .before .before .before .before .before .put-item4 .ensures)) (c .before .before .before .before .put-item5 .ensures)))
+put-pair-requires : tie.Need-put-pair-requires
+unfolding rowText shareText
+put-pair-requires c κs =
+    room-as (sym (ap (λ s. shareText (s .top) (s .bottom)) (c .before .before .before .share-of .ensures)))
+    (left-room (whole (c .before .before .before .before .before .before .before .before .before .before .before .before .before .before .before .before .before .before .before .before .before .before .before .before .before .before .before .before .before .before)) (left-next (left-next (left-next (left-next (left-next left-all (c .before .before .before .before .before .before .before .before .before .before .before .before .before .before .before .before .before .before .before .before .before .before .before .before .before .before .put-item .ensures)) (c .before .before .before .before .before .before .before .before .before .before .before .before .before .before .before .before .before .before .before .before .before .put-item2 .ensures)) (c .before .before .before .before .before .before .before .before .before .before .before .before .before .before .before .before .put-item3 .ensures)) (c .before .before .before .before .before .before .before .before .before .before .before .put-item4 .ensures)) (c .before .before .before .before .before .before .put-item5 .ensures)))
 
 returns : tie.Need-returns
-unfolding rowText
+unfolding rowText shareText
 returns c =
-    let put = left-last (left-next (left-next (left-next (left-next (left-next left-all (c .before .before .before .before .before .before .before .before .before .before .before .before .before .before .before .before .before .before .before .before .before .before .before .before .before .before .before .put-item .ensures)) (c .before .before .before .before .before .before .before .before .before .before .before .before .before .before .before .before .before .before .before .before .before .before .put-item2 .ensures)) (c .before .before .before .before .before .before .before .before .before .before .before .before .before .before .before .before .before .put-item3 .ensures)) (c .before .before .before .before .before .before .before .before .before .before .before .before .put-item4 .ensures)) (c .before .before .before .before .before .before .before .put-item5 .ensures)) (put-as (ap (λ s. shareText (s .top) (s .bottom)) (c .before .before .before .before .share-of .ensures)) (c .before .before .put-share .ensures)) in
-    (omega (arith, put .ends, short (c .before .before .before .before .before .before .before .before .before .before .before .before .before .before .before .before .before .before .before .before .before .before .before .before .before .before .before .before .before .before .before)), put)
+    let put = left-last (left-next (left-next (left-next (left-next (left-next left-all (c .before .before .before .before .before .before .before .before .before .before .before .before .before .before .before .before .before .before .before .before .before .before .before .before .before .before .before .before .before .put-item .ensures)) (c .before .before .before .before .before .before .before .before .before .before .before .before .before .before .before .before .before .before .before .before .before .before .before .before .put-item2 .ensures)) (c .before .before .before .before .before .before .before .before .before .before .before .before .before .before .before .before .before .before .before .put-item3 .ensures)) (c .before .before .before .before .before .before .before .before .before .before .before .before .before .before .put-item4 .ensures)) (c .before .before .before .before .before .before .before .before .before .put-item5 .ensures)) (put-as (ap (λ s. shareText (s .top) (s .bottom)) (c .before .before .before .before .before .before .share-of .ensures)) (c .before .before .put-pair .ensures)) in
+    (omega (arith, put .ends, short (c .before .before .before .before .before .before .before .before .before .before .before .before .before .before .before .before .before .before .before .before .before .before .before .before .before .before .before .before .before .before .before .before .before)), put)
 
 same-length : tie.Need-same-length
 same-length c = put-length (returns c .1)
@@ -73,6 +73,8 @@ put-row-spec =
     (λ c. search needs)
     put-item-requires-5
     (λ c κs. search needs)
-    put-share-requires
+    (λ c. search needs)
+    (λ c. search needs)
+    put-pair-requires
     same-length
     returns)

@@ -25,19 +25,15 @@ put-item-requires-2 : tie.Need-put-item-requires-2
 unfolding totalText
 put-item-requires-2 c κs = next-room _ (whole (c .before .before .before .before .before .before .before .before)) (left-next left-all (c .before .before .before .before .put-item .ensures))
 
-put-item-requires-3 : tie.Need-put-item-requires-3
+put-pair-requires : tie.Need-put-pair-requires
 unfolding totalText
-put-item-requires-3 c κs = next-room _ (whole (c .before .before .before .before .before .before .before .before .before .before .before .before .before)) (left-next (left-next left-all (c .before .before .before .before .before .before .before .before .before .put-item .ensures)) (c .before .before .before .before .put-item2 .ensures))
-
-put-line-requires : tie.Need-put-line-requires
-unfolding totalText
-put-line-requires c κs = left-room (whole (c .before .before .before .before .before .before .before .before .before .before .before .before .before .before .before .before .before .before)) (left-next (left-next (left-next left-all (c .before .before .before .before .before .before .before .before .before .before .before .before .before .before .put-item .ensures)) (c .before .before .before .before .before .before .before .before .before .put-item2 .ensures)) (c .before .before .before .before .put-item3 .ensures))
+put-pair-requires c κs = left-room (whole (c .before .before .before .before .before .before .before .before .before .before .before .before .before .before)) (left-next (left-next left-all (c .before .before .before .before .before .before .before .before .before .before .put-item .ensures)) (c .before .before .before .before .before .put-item2 .ensures))
 
 returns : tie.Need-returns
 unfolding totalText
 returns c =
-    let put = left-last (left-next (left-next (left-next left-all (c .before .before .before .before .before .before .before .before .before .before .before .before .before .before .before .before .before .put-item .ensures)) (c .before .before .before .before .before .before .before .before .before .before .before .before .put-item2 .ensures)) (c .before .before .before .before .before .before .before .put-item3 .ensures)) (c .before .before .put-line .ensures) in
-    (omega (arith, put .ends, short (c .before .before .before .before .before .before .before .before .before .before .before .before .before .before .before .before .before .before .before .before .before)), put)
+    let put = left-last (left-next (left-next left-all (c .before .before .before .before .before .before .before .before .before .before .before .before .before .put-item .ensures)) (c .before .before .before .before .before .before .before .before .put-item2 .ensures)) (c .before .before .put-pair .ensures) in
+    (omega (arith, put .ends, short (c .before .before .before .before .before .before .before .before .before .before .before .before .before .before .before .before .before)), put)
 
 same-length : tie.Need-same-length
 same-length c = put-length (returns c .1)
@@ -51,8 +47,7 @@ put-total-spec =
     (λ c. search needs)
     put-item-requires-2
     (λ c. search needs)
-    put-item-requires-3
     (λ c. search needs)
-    put-line-requires
+    put-pair-requires
     same-length
     returns)

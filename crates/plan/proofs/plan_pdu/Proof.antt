@@ -8,7 +8,7 @@ use Rattle.plan.proofs.plan_pdu.Tie as tie
 returns : tie.Need-returns
 unfolding planOf
 returns c =
-    simp (← c .before .before .plan-refusal .ensures, ne-eqb _ _ (c .before .if1 .taken), c .refused .ensures)
+    simp (← c .before .before .plan-refusal .ensures, ne-eqb _ _ (c .before .if1 .taken), c .refused-plan .ensures)
 
 returns-2 : tie.Need-returns-2
 unfolding planOf

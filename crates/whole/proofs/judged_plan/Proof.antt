@@ -3,7 +3,7 @@ use mathlib.Core.Path.{sym, ap, _∙_}
 use Prim.Native.Nat.{ℕ}
 use borrow.Author.Needs.{needs}
 use borrow.Author.Tests.{eq-eqb, ne-eqb}
-use Rattle.plan.specs.Plan.{refused}
+use Rattle.plan.specs.Plan.{refusedPlan}
 use Rattle.whole.specs.Whole.{judgedPlan}
 use Rattle.whole.proofs.judged_plan.Statement.{statement}
 use Rattle.whole.proofs.judged_plan.Tie as tie
@@ -12,7 +12,7 @@ returns : tie.Need-returns
 unfolding judgedPlan
 returns c =
     let e = c .before .before .open-refusal .ensures in
-    rw (ne-eqb _ 0 (λ z. c .before .if1 .taken (e ∙ z))) (c .refused .ensures ∙ ap (λ (n : ℕ). refused n) e)
+    rw (ne-eqb _ 0 (λ z. c .before .if1 .taken (e ∙ z))) (c .refused-plan .ensures ∙ ap (λ (n : ℕ). refusedPlan n) e)
 
 returns-2 : tie.Need-returns-2
 unfolding judgedPlan

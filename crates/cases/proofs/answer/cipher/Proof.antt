@@ -9,7 +9,7 @@ use Rattle.span.specs.Span.{xored}
 use Rattle.keystream.specs.Stream.{keystream}
 use Rattle.lines.specs.Parts.{areBytes, bytesOf}
 use Rattle.case_reader.specs.Case.{caseOf}
-use Rattle.cases.specs.Answer.{ciphered}
+use Rattle.cases.specs.Answer.{cipheredCase}
 use Rattle.case_reader.proofs.Passed.{passed, buffer-readable}
 use Rattle.cases.proofs.answer.cipher.Statement.{statement}
 use Rattle.cases.proofs.answer.cipher.Tie as tie
@@ -36,7 +36,7 @@ cipher-from-requires c κs =
     (omega arith, record { inside = omega arith; streamed = omega arith })
 
 returns : tie.Need-returns
-unfolding ciphered caseOf
+unfolding cipheredCase caseOf
 returns c =
     c .before .before .cipher-from .ensures .0
     ∙ (λ i.
