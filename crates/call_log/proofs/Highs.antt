@@ -4,7 +4,7 @@ use Prim.Native.Nat.{ℕ, _≤_}
 use native.Mathlib.Omega.{arith}
 use lib.Dec.{eqb}
 use Rattle.laws.specs.Choice.{pick}
-use Rattle.call_log.specs.Log.{largestNumber, largestCode}
+use Rattle.logged_calls.specs.Log.{largestNumber, largestCode}
 use Rattle.call_log.specs.Fed.{highOf, finalPart}
 
 pub high-most : (part : ℕ) → highOf part ≤ largestNumber

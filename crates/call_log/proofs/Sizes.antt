@@ -6,10 +6,10 @@ use Prim.Native.Nat.{ℕ, _+_, _%_, _^_}
 use lib.Dec.{eqb}
 use lib.ListN.{length, getD, length-set}
 use Rattle.laws.specs.Choice.{pick}
-use Rattle.call_log.specs.declared.Call.{Call}
+use Rattle.logged_calls.specs.declared.Call.{Call}
 use Rattle.call_log.specs.declared.Month.{Month}
-use Rattle.call_log.specs.Log.{isAccepted}
-use Rattle.call_log.specs.Figures.{rowOf, totalRow, callsAt, bitsAt, blocksAt, linesAt, countAt, plus, intoRow, addedAccepted, addedRefused, added}
+use Rattle.logged_calls.specs.Log.{isAccepted}
+use Rattle.logged_calls.specs.Figures.{rowOf, totalRow, callsAt, bitsAt, blocksAt, linesAt, countAt, plus, intoRow, addedAccepted, addedRefused, added}
 use Rattle.call_log.specs.Fed.{Fed, fedTo, lineStart, stopped, callOf, taken, ended, endsLine, inLine, fedByte, fed}
 
 pub plus-size : (f : List ℕ) (i n : ℕ) → length (plus f i n) ≡ length f

@@ -7,10 +7,10 @@ use lib.ListN.{getD}
 use Rattle.laws.specs.Choice.{pick}
 use Rattle.forms.specs.Decimals.{mayBegin, mayFollow}
 use Rattle.writing.specs.Text.{ascii, lf}
-use Rattle.call_log.specs.declared.Call.{Call}
+use Rattle.logged_calls.specs.declared.Call.{Call}
 use Rattle.call_log.specs.declared.Month.{Month}
-use Rattle.call_log.specs.Log.{isSound, largestNumber, largestCode, mostLines}
-use Rattle.call_log.specs.Figures.{added}
+use Rattle.logged_calls.specs.Log.{isSound, largestNumber, largestCode, mostLines}
+use Rattle.logged_calls.specs.Figures.{added}
 
 -- the name of a part of a line, with the space before it
 unfoldable pub partName : ℕ → List ℕ

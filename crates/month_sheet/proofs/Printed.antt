@@ -13,7 +13,7 @@ use Rattle.laws.specs.Choice.{pick}
 use Rattle.laws.specs.Lists.{tabulate}
 use Rattle.laws.proofs.Lists.{tabulate-ext}
 use Rattle.writing.specs.Writing.{Put, atFront}
-use Rattle.call_log.specs.Figures.{figureCount}
+use Rattle.logged_calls.specs.Figures.{figureCount}
 use Rattle.call_log.specs.Fed.{Fed, wrongLine}
 use Rattle.month_sheet.specs.Sheet.{sheetText, sumsIn, wrongLineText, printedText, sheetRoom, printedLength, printedBuffer}
 

@@ -8,7 +8,7 @@ use Rattle.laws.specs.Lists.{tabulate}
 use Rattle.writing.specs.Text.{digits, item, lineText}
 use Rattle.writing.specs.Writing.{atFront}
 use Rattle.shares.specs.Share.{shareOf}
-use Rattle.call_log.specs.Figures.{figureCount, totalRow, callsAt, bitsAt, blocksAt, linesAt, countAt}
+use Rattle.logged_calls.specs.Figures.{figureCount, totalRow, callsAt, bitsAt, blocksAt, linesAt, countAt}
 use Rattle.call_log.specs.Fed.{Fed, fedTo, fed, lineStart, wrongLine}
 
 -- refusal 27 (document 02, [13]): a line of the call log is bad

@@ -10,9 +10,9 @@ use lib.ListN.{length, take}
 use borrow.Author.Tests.{eqb-true, eqb-false, lt-leb, le-leb}
 use Rattle.laws.specs.Choice.{pick}
 use Rattle.laws.proofs.Cases.{and-left, and-right, pick-cases}
-use Rattle.call_log.specs.declared.Call.{Call}
+use Rattle.logged_calls.specs.declared.Call.{Call}
 use Rattle.call_log.specs.declared.Month.{Month}
-use Rattle.call_log.specs.Log.{GoodCall, AllGood, callText, logText, mostLines}
+use Rattle.logged_calls.specs.Log.{GoodCall, AllGood, callText, logText, mostLines}
 use Rattle.call_log.specs.Fed.{Fed, fedTo, fed, lineStart, wrongLine, inNumber, partName}
 use Rattle.call_log.proofs.Feeds.{fed-append}
 use Rattle.month_sheet.specs.Sheet.{sheetText, sumsIn, wrongLineText, printedText, wholeLog}

@@ -14,11 +14,11 @@ use Rattle.laws.specs.Choice.{pick}
 use Rattle.laws.specs.Lists.{tabulate}
 use Rattle.laws.proofs.Lists.{length-tabulate, getD-tabulate}
 use Rattle.laws.proofs.Cases.{eq-or-ne, lt-or-le}
-use Rattle.call_log.specs.declared.Call.{Call}
-use Rattle.call_log.specs.Log.{GoodCall, AllGood, none, more, isAccepted, isSound, mostBits, largestBlocks, mostLines}
-use Rattle.call_log.specs.Figures.{figureCount, rowOf, totalRow, callsAt, bitsAt, blocksAt, linesAt, countAt, plus, intoRow, addedAccepted, addedRefused, added}
+use Rattle.logged_calls.specs.declared.Call.{Call}
+use Rattle.logged_calls.specs.Log.{GoodCall, AllGood, none, more, isAccepted, isSound, mostBits, largestBlocks, mostLines}
+use Rattle.logged_calls.specs.Figures.{figureCount, rowOf, totalRow, callsAt, bitsAt, blocksAt, linesAt, countAt, plus, intoRow, addedAccepted, addedRefused, added}
 use Rattle.call_log.proofs.Sizes.{plus-size, added-size}
-use Rattle.call_log.proofs.Sound.{Ranges, accepted-ranges, refused-code}
+use Rattle.logged_calls.proofs.Sound.{Ranges, accepted-ranges, refused-code}
 use Rattle.month_sheet.specs.Sheet.{rowText, countText, totalText, texts, rowIn, sheetText, sumsIn}
 use Rattle.month_sums.specs.Sums.{sumOfLines, inRow, sumsOver}
 use Rattle.month_sums.proofs.Logs.{figuresAfter}

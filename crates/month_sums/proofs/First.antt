@@ -10,10 +10,10 @@ use lib.ListN.{length}
 use borrow.Author.Tests.{eqb-true, leb-true}
 use Rattle.laws.proofs.Cases.{and-left, and-right}
 use Rattle.writing.specs.Text.{lf}
-use Rattle.call_log.specs.declared.Call.{Call}
+use Rattle.logged_calls.specs.declared.Call.{Call}
 use Rattle.call_log.specs.declared.Month.{Month}
-use Rattle.call_log.specs.Log.{GoodCall, AllGood, none, callText, logText, isSound, mostLines}
-use Rattle.call_log.specs.Figures.{added}
+use Rattle.logged_calls.specs.Log.{GoodCall, AllGood, none, callText, logText, isSound, mostLines}
+use Rattle.logged_calls.specs.Figures.{added}
 use Rattle.call_log.specs.Fed.{Fed, fedTo, fed, fedByte, lineStart, stopped, finalPart, inNumber, inLine, endsLine, ended, taken, callOf}
 use Rattle.call_log.proofs.Feeds.{fed-append}
 use Rattle.call_log.proofs.Bytes.{byte-wrong, byte-ends, byte-in, picked}

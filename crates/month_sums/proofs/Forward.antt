@@ -12,10 +12,10 @@ use Rattle.forms.specs.Decimals.{mayBegin, mayFollow}
 use Rattle.forms.proofs.Decimals.{begin-is, follow-is, follow-yes, between-is}
 use Rattle.writing.specs.Text.{ascii, lf, digits, item, lineText}
 use Rattle.writing.proofs.Digits.{digits-one, digits-ten}
-use Rattle.call_log.specs.declared.Call.{Call}
+use Rattle.logged_calls.specs.declared.Call.{Call}
 use Rattle.call_log.specs.declared.Month.{Month}
-use Rattle.call_log.specs.Log.{GoodCall, callText, isSound, mostLines}
-use Rattle.call_log.specs.Figures.{added}
+use Rattle.logged_calls.specs.Log.{GoodCall, callText, isSound, mostLines}
+use Rattle.logged_calls.specs.Figures.{added}
 use Rattle.call_log.specs.Fed.{Fed, fedTo, fed, fedByte, lineStart, soFar, inNumber, nextPart, highOf, nameByte, partName, inLine, afterDigit, firstDigit, ofName, endsLine, ended, taken, callOf}
 use Rattle.call_log.proofs.Feeds.{fed-append}
 use Rattle.call_log.proofs.Bytes.{byte-ends, byte-in, picked}

@@ -9,10 +9,10 @@ use lib.ListN.{length, length-append}
 use Rattle.laws.specs.Choice.{pick}
 use Rattle.laws.proofs.Cases.{pick-cases}
 use Rattle.forms.specs.Decimals.{mayBegin, mayFollow}
-use Rattle.call_log.specs.declared.Call.{Call}
+use Rattle.logged_calls.specs.declared.Call.{Call}
 use Rattle.call_log.specs.declared.Month.{Month}
-use Rattle.call_log.specs.Log.{GoodCall, AllGood, none, more, callText, logText, mostLines}
-use Rattle.call_log.specs.Figures.{added}
+use Rattle.logged_calls.specs.Log.{GoodCall, AllGood, none, more, callText, logText, mostLines}
+use Rattle.logged_calls.specs.Figures.{added}
 use Rattle.call_log.specs.Fed.{Fed, fedTo, fed, fedByte, lineStart, stopped, soFar, nextPart, highOf, nameByte, finalPart, inNumber, inLine, afterDigit, firstDigit, ofName, endsLine, ended, taken, callOf}
 use Rattle.call_log.proofs.Feeds.{fed-append}
 use Rattle.month_sums.proofs.Forward.{line-fed}

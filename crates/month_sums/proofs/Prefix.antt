@@ -16,9 +16,9 @@ use Rattle.forms.specs.Decimals.{mayBegin, mayFollow}
 use Rattle.forms.proofs.Decimals.{begin-is, follow-is}
 use Rattle.writing.specs.Text.{ascii, lf, digits, item, lineText}
 use Rattle.writing.proofs.Digits.{digits-one, digits-more}
-use Rattle.call_log.specs.declared.Call.{Call}
+use Rattle.logged_calls.specs.declared.Call.{Call}
 use Rattle.call_log.specs.declared.Month.{Month}
-use Rattle.call_log.specs.Log.{InForm, callText, largestNumber}
+use Rattle.logged_calls.specs.Log.{InForm, callText, largestNumber}
 use Rattle.call_log.specs.Fed.{soFar, inNumber, finalPart, nextPart, lineStart, stopped, highOf, nameByte, partName, inLine, afterDigit, firstDigit, ofName, endsLine, callOf}
 use Rattle.call_log.proofs.Highs.{high-most}
 

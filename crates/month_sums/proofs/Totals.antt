@@ -12,10 +12,10 @@ use Rattle.laws.specs.Choice.{pick}
 use Rattle.laws.proofs.Cases.{eq-or-ne, lt-or-le}
 use Rattle.shares.specs.Share.{shareOf, LowestShare}
 use Rattle.shares.proofs.Lowest.{share-lowest}
-use Rattle.call_log.specs.declared.Call.{Call}
-use Rattle.call_log.specs.Log.{GoodCall, AllGood, none, more}
-use Rattle.call_log.specs.Figures.{rowOf, totalRow}
-use Rattle.call_log.proofs.Sound.{accepted-ranges, refused-code}
+use Rattle.logged_calls.specs.declared.Call.{Call}
+use Rattle.logged_calls.specs.Log.{GoodCall, AllGood, none, more}
+use Rattle.logged_calls.specs.Figures.{rowOf, totalRow}
+use Rattle.logged_calls.proofs.Sound.{accepted-ranges, refused-code}
 use Rattle.month_sums.specs.Sums.{sumOfLines, inRow, sumsOver, sumTo}
 use Rattle.month_sums.proofs.Figures.{hit, hit-same, hit-other, sum-same, sum-ones, row-low, in-accepted, in-refused}
 

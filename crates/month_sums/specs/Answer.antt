@@ -3,8 +3,8 @@ use mathlib.Core.List.{List, [], _++_}
 use mathlib.Core.Path.{_≡_}
 use Prim.Native.Nat.{ℕ, _+_, _≤_, _<_}
 use lib.ListN.{length}
-use Rattle.call_log.specs.declared.Call.{Call}
-use Rattle.call_log.specs.Log.{GoodCall, AllGood, callText, logText, mostLines}
+use Rattle.logged_calls.specs.declared.Call.{Call}
+use Rattle.logged_calls.specs.Log.{GoodCall, AllGood, callText, logText, mostLines}
 use Rattle.month_sheet.specs.Sheet.{sheetText, wrongLineText}
 use Rattle.month_sums.specs.Sums.{sumsOver}
 

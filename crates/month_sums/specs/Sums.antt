@@ -5,9 +5,9 @@ use Prim.Native.Nat.{ℕ, zero, suc, _+_, _/_, _%_}
 use lib.Dec.{eqb}
 use lib.ListN.{length}
 use Rattle.laws.specs.Choice.{pick}
-use Rattle.call_log.specs.declared.Call.{Call}
-use Rattle.call_log.specs.Log.{isAccepted}
-use Rattle.call_log.specs.Figures.{totalRow}
+use Rattle.logged_calls.specs.declared.Call.{Call}
+use Rattle.logged_calls.specs.Log.{isAccepted}
+use Rattle.logged_calls.specs.Figures.{totalRow}
 use Rattle.month_sheet.specs.Sheet.{Sums}
 
 unfoldable pub sumOfLines : (Call → ℕ) → List Call → ℕ

@@ -2,9 +2,9 @@
 use mathlib.Core.Path.{_≡_, sym, ap, _∙_}
 use mathlib.Core.Bool.{true}
 use borrow.Author.Tests.{le-leb, lt-leb, not-true, not-false}
-use Rattle.call_log.specs.Log.{isSound}
+use Rattle.logged_calls.specs.Log.{isSound}
 use Rattle.call_log.specs.Fed.{callOf, fedTo, lineStart, taken, ended}
-use Rattle.call_log.specs.Figures.{added}
+use Rattle.logged_calls.specs.Figures.{added}
 use borrow.Author.Needs.{needs}
 use Rattle.call_log.proofs.end_line.Statement.{statement}
 use Rattle.call_log.proofs.end_line.Tie as tie

@@ -3,8 +3,8 @@ use mathlib.Core.List.{List}
 use Prim.Native.Nat.{ℕ, _+_, _-_, _*_, _%_, _^_}
 use lib.ListN.{getD, set}
 use Rattle.laws.specs.Choice.{pick}
-use Rattle.call_log.specs.declared.Call.{Call}
-use Rattle.call_log.specs.Log.{isAccepted}
+use Rattle.logged_calls.specs.declared.Call.{Call}
+use Rattle.logged_calls.specs.Log.{isAccepted}
 
 -- A row is calls, bits and blocks. Rows 0 to 63 are those of the slots, two for each, by direction; row 64 is that of all accepted calls.
 abbrev pub rowOf : ℕ → ℕ → ℕ

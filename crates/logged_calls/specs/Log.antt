@@ -8,7 +8,7 @@ use lib.ListN.{length}
 use Rattle.laws.specs.Choice.{pick}
 use Rattle.fields.specs.Fields.{between}
 use Rattle.writing.specs.Text.{digits, item, lineText}
-use Rattle.call_log.specs.declared.Call.{Call}
+use Rattle.logged_calls.specs.declared.Call.{Call}
 
 -- the text of a line, with the LF that ends it
 unfoldable pub callText : Call → List ℕ

@@ -1,8 +1,8 @@
--- `call_log::add_refused`: one figure after the other. Assumes nothing.
-use Rattle.call_log.specs.Figures.{addedRefused}
+-- `logged_calls::add_refused`: one figure after the other. Assumes nothing.
+use Rattle.logged_calls.specs.Figures.{addedRefused}
 use borrow.Author.Needs.{needs}
-use Rattle.call_log.proofs.add_refused.Statement.{statement}
-use Rattle.call_log.proofs.add_refused.Tie as tie
+use Rattle.logged_calls.proofs.add_refused.Statement.{statement}
+use Rattle.logged_calls.proofs.add_refused.Tie as tie
 
 returns : tie.Need-returns
 unfolding addedRefused

@@ -1,12 +1,12 @@
--- `call_log::add`: by the test of the code. Assumes nothing.
+-- `logged_calls::add`: by the test of the code. Assumes nothing.
 use mathlib.Core.Path.{ap, _∙_}
 use borrow.Author.Tests.{eq-eqb, ne-eqb}
 use Prim.Native.Nat.{ℕ}
-use Rattle.call_log.specs.Figures.{addedAccepted, added}
-use Rattle.call_log.proofs.Sound.{accepted-ranges, refused-code}
+use Rattle.logged_calls.specs.Figures.{addedAccepted, added}
+use Rattle.logged_calls.proofs.Sound.{accepted-ranges, refused-code}
 use borrow.Author.Needs.{needs}
-use Rattle.call_log.proofs.add.Statement.{statement}
-use Rattle.call_log.proofs.add.Tie as tie
+use Rattle.logged_calls.proofs.add.Statement.{statement}
+use Rattle.logged_calls.proofs.add.Tie as tie
 
 row-of-requires : tie.Need-row-of-requires
 row-of-requires c κs = let r = accepted-ranges (c .before .before .before .args .c) (c .before .before .before .pre) (c .before .if1 .taken) in (r .slot-low, r .slot-high, r .direction-low, r .direction-high)

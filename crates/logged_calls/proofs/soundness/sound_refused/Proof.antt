@@ -1,8 +1,8 @@
 -- `lines::sound_refused`: each answer by the tests that led to it. Assumes nothing.
 use borrow.Author.Tests.{le-leb, lt-leb, eq-eqb, ne-eqb}
-use Rattle.call_log.specs.Log.{soundRefused}
-use Rattle.call_log.proofs.lines.sound_refused.Statement.{statement}
-use Rattle.call_log.proofs.lines.sound_refused.Tie as tie
+use Rattle.logged_calls.specs.Log.{soundRefused}
+use Rattle.logged_calls.proofs.soundness.sound_refused.Statement.{statement}
+use Rattle.logged_calls.proofs.soundness.sound_refused.Tie as tie
 
 returns : tie.Need-returns
 unfolding soundRefused

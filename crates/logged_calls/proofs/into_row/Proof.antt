@@ -1,8 +1,8 @@
--- `call_log::into_row`: one figure after the other. Assumes nothing.
-use Rattle.call_log.specs.Figures.{intoRow}
+-- `logged_calls::into_row`: one figure after the other. Assumes nothing.
+use Rattle.logged_calls.specs.Figures.{intoRow}
 use borrow.Author.Needs.{needs}
-use Rattle.call_log.proofs.into_row.Statement.{statement}
-use Rattle.call_log.proofs.into_row.Tie as tie
+use Rattle.logged_calls.proofs.into_row.Statement.{statement}
+use Rattle.logged_calls.proofs.into_row.Tie as tie
 
 returns : tie.Need-returns
 unfolding intoRow

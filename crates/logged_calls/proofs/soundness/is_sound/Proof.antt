@@ -1,9 +1,9 @@
 -- `lines::is_sound`: by the test of the code. Assumes nothing.
 use borrow.Author.Tests.{eq-eqb, ne-eqb}
-use Rattle.call_log.specs.Log.{isSound}
+use Rattle.logged_calls.specs.Log.{isSound}
 use borrow.Author.Needs.{needs}
-use Rattle.call_log.proofs.lines.is_sound.Statement.{statement}
-use Rattle.call_log.proofs.lines.is_sound.Tie as tie
+use Rattle.logged_calls.proofs.soundness.is_sound.Statement.{statement}
+use Rattle.logged_calls.proofs.soundness.is_sound.Tie as tie
 
 returns : tie.Need-returns
 unfolding isSound

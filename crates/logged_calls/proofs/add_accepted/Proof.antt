@@ -1,8 +1,8 @@
--- `call_log::add_accepted`: one row after the other. Assumes nothing.
-use Rattle.call_log.specs.Figures.{addedAccepted}
+-- `logged_calls::add_accepted`: one row after the other. Assumes nothing.
+use Rattle.logged_calls.specs.Figures.{addedAccepted}
 use borrow.Author.Needs.{needs}
-use Rattle.call_log.proofs.add_accepted.Statement.{statement}
-use Rattle.call_log.proofs.add_accepted.Tie as tie
+use Rattle.logged_calls.proofs.add_accepted.Statement.{statement}
+use Rattle.logged_calls.proofs.add_accepted.Tie as tie
 
 returns : tie.Need-returns
 unfolding addedAccepted

@@ -1,7 +1,7 @@
 // Which lines of a log are sound, once they are in form.
 use crate::Call;
 ghost use mathlib.Core.Path.{_≡_};
-ghost use Rattle.call_log.specs.Log.{soundAccepted, soundRefused, isSound};
+ghost use Rattle.logged_calls.specs.Log.{soundAccepted, soundRefused, isSound};
 
 fn sound_accepted(slot: u64, direction: u64, bits: u64, blocks: u64) -> bool
     ensures { λ r. ⌜ r ≡ soundAccepted slot direction bits blocks ⌝ }

@@ -1,9 +1,9 @@
 -- `lines::sound_accepted`: each answer by the tests that led to it. Assumes nothing.
 use borrow.Author.Tests.{le-leb, lt-leb, lt-ltb, le-ltb}
-use Rattle.call_log.specs.Log.{soundAccepted}
+use Rattle.logged_calls.specs.Log.{soundAccepted}
 use borrow.Author.Needs.{needs}
-use Rattle.call_log.proofs.lines.sound_accepted.Statement.{statement}
-use Rattle.call_log.proofs.lines.sound_accepted.Tie as tie
+use Rattle.logged_calls.proofs.soundness.sound_accepted.Statement.{statement}
+use Rattle.logged_calls.proofs.soundness.sound_accepted.Tie as tie
 
 returns : tie.Need-returns
 unfolding soundAccepted

@@ -8,8 +8,8 @@ use borrow.Author.Tests.{leb-true, eqb-true, eq-eqb, ne-eqb}
 use Rattle.laws.proofs.Cases.{and-left, and-right}
 use Rattle.fields.specs.Fields.{between}
 use Rattle.fields.proofs.Ranges.{between-low, between-high}
-use Rattle.call_log.specs.declared.Call.{Call}
-use Rattle.call_log.specs.Log.{isSound, soundAccepted, soundRefused, mostBits, largestBlocks, largestCode}
+use Rattle.logged_calls.specs.declared.Call.{Call}
+use Rattle.logged_calls.specs.Log.{isSound, soundAccepted, soundRefused, mostBits, largestBlocks, largestCode}
 
 -- an accepted call's numbers
 pub record Ranges (slot direction bits blocks : ℕ) : Type 0 where

@@ -1,11 +1,11 @@
--- `call_log::plus`: a store, or none where there is no such figure. Assumes nothing.
+-- `logged_calls::plus`: a store, or none where there is no such figure. Assumes nothing.
 use mathlib.Core.Path.{sym, ap}
 use lib.ListN.{set}
 use lib.Seq.{set-out}
-use Rattle.call_log.specs.Figures.{plus}
+use Rattle.logged_calls.specs.Figures.{plus}
 use borrow.Author.Needs.{needs}
-use Rattle.call_log.proofs.plus.Statement.{statement}
-use Rattle.call_log.proofs.plus.Tie as tie
+use Rattle.logged_calls.proofs.plus.Statement.{statement}
+use Rattle.logged_calls.proofs.plus.Tie as tie
 
 returns : tie.Need-returns
 unfolding plus
