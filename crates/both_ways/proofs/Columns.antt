@@ -4,7 +4,7 @@ use Prim.Native.Nat.{ℕ, _<_, zero-le}
 use lib.Bits.{bitXor, xor-zero-r}
 use Rattle.laws.proofs.Tests.{agree}
 use Rattle.gf256.specs.Field.{times}
-use Rattle.rounds.specs.Steps.{mixedByte}
+use Rattle.round_steps.specs.Steps.{mixedByte}
 use Rattle.inv_bytes.specs.Bytes.{invMixedByte}
 use Rattle.both_ways.proofs.Sums.{times-additive, same-additive, sum4, small4, more4, column, twice-mixed}
 

@@ -6,7 +6,7 @@ use native.Mathlib.Omega.{arith}
 use lib.ListN.{getD}
 use Rattle.laws.specs.Lists.{tabulate}
 use Rattle.laws.proofs.Lists.{tabulate-at}
-use Rattle.rounds.specs.Steps.{mixColumn, addRoundKey, roundOf}
+use Rattle.round_steps.specs.Steps.{mixColumn, addRoundKey, roundOf}
 use Rattle.schedule.specs.Schedule.{keyWord}
 use Rattle.rijndael.specs.Cipher.{rounds, encrypted}
 use Rattle.inv_parts.specs.Steps.{invMixColumn}

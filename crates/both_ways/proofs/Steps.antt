@@ -14,7 +14,7 @@ use Rattle.laws.proofs.Xor.{xor-back}
 use Rattle.gf256.specs.Field.{sBox}
 use Rattle.words.specs.Words.{byteOf}
 use Rattle.words.proofs.Bytes.{joined}
-use Rattle.rounds.specs.Steps.{byteSub, shiftOf, shiftRow, mixedByte, mixColumn, addRoundKey}
+use Rattle.round_steps.specs.Steps.{byteSub, shiftOf, shiftRow, mixedByte, mixColumn, addRoundKey}
 use Rattle.inv_bytes.specs.Bytes.{invSBox, invMixedByte}
 use Rattle.inv_parts.specs.Steps.{invByteSub, invShiftRow, invMixColumn}
 use Rattle.inv_parts.specs.Schedule.{invMixedWord}

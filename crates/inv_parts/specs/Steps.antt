@@ -2,7 +2,7 @@
 use mathlib.Core.List.{List}
 use Prim.Native.Nat.{ℕ, _+_, _-_, _%_}
 use Rattle.laws.specs.Lists.{cell, grid}
-use Rattle.rounds.specs.Steps.{shiftOf}
+use Rattle.round_steps.specs.Steps.{shiftOf}
 use Rattle.inv_bytes.specs.Bytes.{invSBox, invMixedByte}
 
 -- 4.2.1

@@ -2,7 +2,7 @@
 use mathlib.Core.List.{List}
 use Prim.Native.Nat.{ℕ, zero, suc, _-_}
 use Rattle.laws.specs.Lists.{tabulate}
-use Rattle.rounds.specs.Steps.{addRoundKey}
+use Rattle.round_steps.specs.Steps.{addRoundKey}
 use Rattle.rijndael.specs.Cipher.{toState, toBlock}
 use Rattle.inv_parts.specs.Steps.{invByteSub, invShiftRow, invMixColumn}
 use Rattle.inv_parts.specs.Schedule.{invKeyWord}

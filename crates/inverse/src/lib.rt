@@ -12,7 +12,7 @@ use inv_bytes::inv_s_box_table;
 use inv_parts::inv_shift_row;
 use rijndael::to_block;
 use rijndael::to_state;
-use rounds::add_round_key;
+use round_steps::add_round_key;
 use steps::inv_byte_sub;
 use steps::inv_mix_column;
 

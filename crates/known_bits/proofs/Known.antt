@@ -15,7 +15,7 @@ use Rattle.laws.proofs.Cases.{pick-cases}
 use Rattle.laws.proofs.Lists.{getD-tabulate}
 use Rattle.gf256.specs.Field.{times, inverse, affine, sBox}
 use Rattle.words.specs.Words.{join}
-use Rattle.rounds.specs.Steps.{byteSub, shiftRow, mixedByte, mixColumn, addRoundKey}
+use Rattle.round_steps.specs.Steps.{byteSub, shiftRow, mixedByte, mixColumn, addRoundKey}
 use Rattle.schedule.specs.Schedule.{keyWord, rotByte, subByte, roundConstant, carried, packed}
 use Rattle.rijndael.specs.Cipher.{toState, toBlock, rounds, encrypted, cipher}
 use Rattle.tea.specs.declared.mode.Mode.{Mode}

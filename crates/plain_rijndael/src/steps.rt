@@ -1,7 +1,7 @@
 // The steps of a round, on a state of four rows by eight columns: the proposal, 4.2.
 ghost use mathlib.Core.Path.{_≡_};
 ghost use Prim.Native.Nat.{_<_};
-ghost use Rattle.rounds.specs.Steps.{shiftOf, mixedByte, byteSub, shiftRow, mixColumn, addRoundKey, roundOf, finalRound};
+ghost use Rattle.round_steps.specs.Steps.{shiftOf, mixedByte, byteSub, shiftRow, mixColumn, addRoundKey, roundOf, finalRound};
 ghost use Rattle.plain_schedule.specs.Bytes.{wordsOf};
 use plain_field::galois::times;
 use plain_field::s_box::s_box;

@@ -8,7 +8,7 @@ use lib.Dec.{lit<}
 use lib.ListN.{set}
 use Rattle.laws.specs.Lists.{cell, Filled}
 use Rattle.laws.proofs.Lists.{fill-at, fill-to}
-use Rattle.rounds.specs.Steps.{roundOf}
+use Rattle.round_steps.specs.Steps.{roundOf}
 use Rattle.rijndael.specs.Cipher.{rounds}
 
 next : (w : List ℕ) (s : List (List ℕ)) (m : ℕ) → roundOf w (m + 1) (rounds w s m) ≡ rounds w s (m + 1)

@@ -3,7 +3,7 @@ use mathlib.Core.List.{List}
 use Prim.Native.Nat.{ℕ, zero, suc, _+_, _*_, _/_, _%_}
 use lib.ListN.{getD}
 use Rattle.laws.specs.Lists.{tabulate, cell, grid}
-use Rattle.rounds.specs.Steps.{addRoundKey, roundOf, finalRound}
+use Rattle.round_steps.specs.Steps.{addRoundKey, roundOf, finalRound}
 use Rattle.schedule.specs.Schedule.{keyWord}
 
 -- byte k of a block stands in row k mod 4, column k div 4

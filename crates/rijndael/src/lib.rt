@@ -4,7 +4,7 @@ ghost use lib.ListN.{length};
 ghost use Rattle.gf256.specs.Field.{sBoxes};
 ghost use Rattle.products.specs.Products.{products};
 ghost use Rattle.rijndael.specs.Cipher.{toState, toBlock, encrypted};
-use rounds::last_round;
+use round_steps::last_round;
 use rounds::packing::from_words;
 use rounds::packing::keyed_words;
 use rounds::packing::to_words;

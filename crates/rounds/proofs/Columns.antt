@@ -14,7 +14,7 @@ use Rattle.laws.proofs.States.{Shape, put, Placed, Apart, place-more, columns-a
 use Rattle.laws.proofs.Tests.{agree}
 use Rattle.gf256.specs.Field.{sBox}
 use Rattle.words.specs.Words.{byteOf, wordBytes}
-use Rattle.rounds.specs.Steps.{byteSub, shiftOf, shiftRow, mixedByte, mixColumn, addRoundKey, roundOf}
+use Rattle.round_steps.specs.Steps.{byteSub, shiftOf, shiftRow, mixedByte, mixColumn, addRoundKey, roundOf}
 use Rattle.rounds.specs.Columns.{ofWords, mixedColumn}
 use Rattle.words.proofs.Bytes.{sum-byte, summed}
 

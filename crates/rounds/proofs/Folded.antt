@@ -9,7 +9,7 @@ use Rattle.gf256.proofs.Bounds.{times-lt, s-box-lt}
 use Rattle.products.specs.Products.{share}
 use Rattle.words.specs.Words.{join, wordBytes}
 use Rattle.words.proofs.Bytes.{joined, summed}
-use Rattle.rounds.specs.Steps.{mixedByte}
+use Rattle.round_steps.specs.Steps.{mixedByte}
 use Rattle.rounds.specs.Columns.{mixedColumn}
 
 -- the first of four goes last

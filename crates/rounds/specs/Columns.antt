@@ -4,7 +4,7 @@ use Prim.Native.Nat.{ℕ}
 use lib.ListN.{getD}
 use Rattle.laws.specs.Lists.{grid}
 use Rattle.words.specs.Words.{byteOf}
-use Rattle.rounds.specs.Steps.{mixedByte}
+use Rattle.round_steps.specs.Steps.{mixedByte}
 
 -- the mixed column of one whose bytes are a, b, c, d
 abbrev pub mixedColumn : ℕ → ℕ → ℕ → ℕ → List ℕ

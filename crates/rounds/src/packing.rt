@@ -3,7 +3,7 @@ ghost use mathlib.Core.Path.{_≡_};
 ghost use mathlib.Core.List.{[], _∷_};
 ghost use lib.ListN.{length};
 ghost use Rattle.words.specs.Words.{wordBytes};
-ghost use Rattle.rounds.specs.Steps.{addRoundKey};
+ghost use Rattle.round_steps.specs.Steps.{addRoundKey};
 ghost use Rattle.rounds.specs.Columns.{ofWords};
 use words::byte0;
 use words::byte1;

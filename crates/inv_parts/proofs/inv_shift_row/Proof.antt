@@ -2,7 +2,7 @@
 use mathlib.Core.Path.{refl, ap}
 use Prim.Native.Nat.{_+_, _-_, _%_}
 use borrow.Author.Needs.{needs}
-use Rattle.rounds.specs.Steps.{shiftOf}
+use Rattle.round_steps.specs.Steps.{shiftOf}
 use Rattle.inv_parts.specs.Steps.{invShiftRow}
 use Rattle.laws.proofs.States.{Columns, columns-none, columns-more, columns-all, state-shape}
 use Rattle.laws.proofs.InRows.{not-turned}

@@ -4,7 +4,7 @@ use Prim.Native.Nat.{_-_, _≤_}
 use native.Mathlib.Omega.{arith}
 use borrow.Author.Needs.{needs}
 use Rattle.rijndael.specs.Cipher.{rounds, encrypted}
-use Rattle.rounds.specs.Steps.{roundOf}
+use Rattle.round_steps.specs.Steps.{roundOf}
 use Rattle.rounds.specs.Columns.{ofWords}
 use Rattle.rijndael.proofs.Rounds.{rounds-more}
 use Rattle.rijndael.proofs.encrypt.Statement.{statement}

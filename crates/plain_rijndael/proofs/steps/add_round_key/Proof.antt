@@ -7,7 +7,7 @@ use borrow.Author.Needs.{needs}
 use lib.Bits.{bitXor}
 use lib.ListN.{getD}
 use Rattle.words.specs.Words.{byteOf}
-use Rattle.rounds.specs.Steps.{addRoundKey}
+use Rattle.round_steps.specs.Steps.{addRoundKey}
 use Rattle.laws.proofs.States.{state-shape}
 use Rattle.laws.proofs.InRows.{InRow, InRows, in-rows-none, in-row-none, in-row-more, in-rows-more, in-rows-all}
 use Rattle.laws.specs.Lists.{cell}

@@ -3,7 +3,7 @@ use mathlib.Core.List.{List}
 use Prim.Native.Nat.{ℕ, _-_}
 use borrow.Author.Needs.{needs}
 use Rattle.gf256.specs.Field.{sBox}
-use Rattle.rounds.specs.Steps.{byteSub}
+use Rattle.round_steps.specs.Steps.{byteSub}
 use Rattle.laws.proofs.States.{state-shape}
 use Rattle.laws.proofs.InRows.{InRow, InRows, in-rows-none, in-row-none, in-row-more, in-rows-more, in-rows-all}
 use Rattle.laws.specs.Lists.{cell}

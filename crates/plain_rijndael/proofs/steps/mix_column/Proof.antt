@@ -2,7 +2,7 @@
 use mathlib.Core.List.{List}
 use Prim.Native.Nat.{ℕ, _+_, _-_, _%_}
 use borrow.Author.Needs.{needs}
-use Rattle.rounds.specs.Steps.{mixedByte, mixColumn}
+use Rattle.round_steps.specs.Steps.{mixedByte, mixColumn}
 use Rattle.laws.proofs.States.{state-shape}
 use Rattle.laws.proofs.InRows.{InRow, InRows, in-rows-none, in-row-none, in-row-more, in-rows-more, in-rows-all}
 use Rattle.laws.specs.Lists.{cell}

@@ -1,6 +1,6 @@
 -- `plain_rounds::mixed_byte`: by the callee's contract. Assumes nothing.
 use borrow.Author.Needs.{needs}
-use Rattle.rounds.specs.Steps.{mixedByte}
+use Rattle.round_steps.specs.Steps.{mixedByte}
 use Rattle.plain_rijndael.proofs.steps.mixed_byte.Statement.{statement}
 use Rattle.plain_rijndael.proofs.steps.mixed_byte.Tie as tie
 

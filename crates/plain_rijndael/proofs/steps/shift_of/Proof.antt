@@ -2,7 +2,7 @@
 use mathlib.Core.Path.{_≡_, sym, ap}
 use native.Mathlib.Omega.{arith}
 use borrow.Author.Needs.{needs}
-use Rattle.rounds.specs.Steps.{shiftOf}
+use Rattle.round_steps.specs.Steps.{shiftOf}
 use Rattle.plain_rijndael.proofs.steps.shift_of.Statement.{statement}
 use Rattle.plain_rijndael.proofs.steps.shift_of.Tie as tie
 

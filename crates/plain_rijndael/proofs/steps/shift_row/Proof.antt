@@ -7,7 +7,7 @@ use borrow.Author.Needs.{needs}
 use borrow.Author.Tests.{ltb-true}
 use lib.Dec.{ltb}
 use Rattle.laws.proofs.Tests.{holds}
-use Rattle.rounds.specs.Steps.{shiftOf, shiftRow}
+use Rattle.round_steps.specs.Steps.{shiftOf, shiftRow}
 use Rattle.laws.proofs.States.{state-shape}
 use Rattle.laws.proofs.InRows.{InRow, InRows, in-rows-none, in-row-none, in-row-more, in-rows-more, in-rows-all}
 use Rattle.laws.specs.Lists.{cell}

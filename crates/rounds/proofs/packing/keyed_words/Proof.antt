@@ -2,7 +2,7 @@
 use mathlib.Core.Path.{refl}
 use Prim.Native.Nat.{_-_}
 use borrow.Author.Needs.{needs}
-use Rattle.rounds.specs.Steps.{addRoundKey}
+use Rattle.round_steps.specs.Steps.{addRoundKey}
 use Rattle.rounds.proofs.Columns.{Packed, firstKeyed, pack-none, pack-all, keyed-more}
 use Rattle.rounds.proofs.packing.keyed_words.Statement.{statement}
 use Rattle.rounds.proofs.packing.keyed_words.Tie as tie

@@ -1,15 +1,15 @@
--- `rounds::add_round_key`: column by column, `Columns`. Assumes nothing.
+-- `round_steps::add_round_key`: column by column, `Columns`. Assumes nothing.
 use mathlib.Core.Path.{ap}
 use Prim.Native.Nat.{_+_, _-_, _*_}
 use borrow.Author.Needs.{needs}
 use lib.Bits.{bitXor}
 use lib.ListN.{getD}
-use Rattle.rounds.specs.Steps.{addRoundKey}
+use Rattle.round_steps.specs.Steps.{addRoundKey}
 use Rattle.laws.proofs.States.{Columns, columns-none, columns-more, columns-all, state-shape}
 use Rattle.laws.specs.Lists.{cell}
 use Rattle.words.specs.Words.{byteOf}
-use Rattle.rounds.proofs.add_round_key.Statement.{statement}
-use Rattle.rounds.proofs.add_round_key.Tie as tie
+use Rattle.round_steps.proofs.add_round_key.Statement.{statement}
+use Rattle.round_steps.proofs.add_round_key.Tie as tie
 
 abbrev Inv-loop : tie.InvT-loop
 Inv-loop w n s t₀ c₀ t c = Columns (λ r c. bitXor (cell s r c) (byteOf (getD w (8 * n + c) 0) r)) t c

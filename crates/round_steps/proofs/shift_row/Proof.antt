@@ -1,13 +1,13 @@
--- `rounds::shift_row`: column by column, `Columns`; row 0 is stored too, so that one law serves. Assumes nothing.
+-- `round_steps::shift_row`: column by column, `Columns`; row 0 is stored too, so that one law serves. Assumes nothing.
 use mathlib.Core.Path.{refl, ap}
 use Prim.Native.Nat.{_+_, _-_, _%_}
 use borrow.Author.Needs.{needs}
-use Rattle.rounds.specs.Steps.{shiftOf, shiftRow}
+use Rattle.round_steps.specs.Steps.{shiftOf, shiftRow}
 use Rattle.laws.proofs.States.{Columns, columns-none, columns-more, columns-all, state-shape}
 use Rattle.laws.proofs.InRows.{not-turned}
 use Rattle.laws.specs.Lists.{cell}
-use Rattle.rounds.proofs.shift_row.Statement.{statement}
-use Rattle.rounds.proofs.shift_row.Tie as tie
+use Rattle.round_steps.proofs.shift_row.Statement.{statement}
+use Rattle.round_steps.proofs.shift_row.Tie as tie
 
 pub shift-row-spec : {M : Type 1} → statement M
 unfolding shiftRow

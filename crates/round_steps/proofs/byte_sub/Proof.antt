@@ -1,13 +1,13 @@
--- `rounds::byte_sub`: cell by cell. Assumes nothing.
+-- `round_steps::byte_sub`: cell by cell. Assumes nothing.
 use Prim.Native.Nat.{_-_}
 use borrow.Author.Needs.{needs}
 use Rattle.gf256.specs.Field.{sBox}
-use Rattle.rounds.specs.Steps.{byteSub}
+use Rattle.round_steps.specs.Steps.{byteSub}
 use Rattle.laws.proofs.States.{state-shape}
 use Rattle.laws.proofs.InRows.{InRow, InRows, in-rows-none, in-row-none, in-row-more, in-rows-more, in-rows-all}
 use Rattle.laws.specs.Lists.{cell}
-use Rattle.rounds.proofs.byte_sub.Statement.{statement}
-use Rattle.rounds.proofs.byte_sub.Tie as tie
+use Rattle.round_steps.proofs.byte_sub.Statement.{statement}
+use Rattle.round_steps.proofs.byte_sub.Tie as tie
 
 pub byte-sub-spec : {M : Type 1} → statement M
 unfolding byteSub

@@ -1,7 +1,7 @@
--- `rounds::last_round`: by the steps' own contracts. Assumes nothing.
+-- `round_steps::last_round`: by the steps' own contracts. Assumes nothing.
 use borrow.Author.Needs.{needs}
-use Rattle.rounds.proofs.last_round.Statement.{statement}
-use Rattle.rounds.proofs.last_round.Tie as tie
+use Rattle.round_steps.proofs.last_round.Statement.{statement}
+use Rattle.round_steps.proofs.last_round.Tie as tie
 
 returns : tie.Need-returns
 returns c = cc
