@@ -6,7 +6,7 @@ use lib.Dec.{eqb}
 use lib.ListN.{getD}
 use Rattle.fields.specs.declared.Fields.{Fields}
 use Rattle.slots.specs.declared.Slot.{Slot}
-use Rattle.slots.specs.Rights.{within}
+use Rattle.rights.specs.Rights.{within}
 
 -- version, algorithm, side, place and network: every field but the use
 unfoldable pub sameFields : Fields → Fields → Bool

@@ -1,7 +1,7 @@
 // When a record stands for another without a right more (document 02, [11]).
 use fields::Fields;
+use rights::lies_within;
 use slots::Slot;
-use slots::lies_within;
 ghost use mathlib.Core.Path.{_≡_};
 ghost use Rattle.agreement.specs.Agreement.{sameFields, sameKey, agrees};
 

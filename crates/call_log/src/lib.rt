@@ -1,10 +1,10 @@
 // A call log, read in one pass as it comes, a block at a time (document 02, [13]). What is read so far is a value; the figures lie in a lent array.
 mod part;
 
-use part::in_line;
-use part::line_start;
 use logged_calls::Call;
 use logged_calls::soundness::is_sound;
+use part::in_line;
+use part::line_start;
 use part::stopped;
 ghost use mathlib.Core.Path.{_≡_};
 ghost use Rattle.call_log.specs.Fed.{lineStart, callOf, ended, fedByte, fed, fedTo, endsLine, wrongLine};

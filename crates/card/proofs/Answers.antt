@@ -3,7 +3,7 @@ use mathlib.Core.Path.{_≡_}
 use mathlib.Core.List.{List}
 use Prim.Native.Nat.{ℕ}
 use Rattle.slots.specs.declared.Slot.{Slot}
-use Rattle.slots.specs.declared.Changed.{Changed}
+use Rattle.slot_calls.specs.declared.Changed.{Changed}
 use Rattle.card.specs.Table.{changedAs}
 
 pub changed-is : (c : Changed) {r : ℕ} {t : List Slot} → (r ≡ c .refusal) × (t ≡ c .table) → changedAs r t ≡ c

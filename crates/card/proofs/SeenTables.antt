@@ -14,17 +14,17 @@ use Rattle.fields.specs.declared.Asked.{Asked}
 use Rattle.fields.specs.Fields.{isSlotNumber}
 use Rattle.fields.proofs.Ranges.{between-low, between-high}
 use Rattle.slots.specs.declared.Slot.{Slot}
-use Rattle.slots.specs.declared.Put.{Put}
+use Rattle.slot_calls.specs.declared.Put.{Put}
 use Rattle.slots.specs.Slots.{hasBad, empty, keyless, nil, slotAt, withSlot}
-use Rattle.slots.specs.Rights.{staysWithin}
-use Rattle.slots.specs.declared.Changed.{Changed}
-use Rattle.slots.specs.Calls.{moveRefusalOf, shownOf}
-use Rattle.slots.specs.Seen.{keySlot, putTo, changedBy, loadPut, movePut, emptiedBy, clearPut}
+use Rattle.rights.specs.Rights.{staysWithin}
+use Rattle.slot_calls.specs.declared.Changed.{Changed}
+use Rattle.slot_calls.specs.Calls.{moveRefusalOf, shownOf}
+use Rattle.slot_calls.specs.Seen.{keySlot, putTo, changedBy, loadPut, movePut, emptiedBy, clearPut}
 use Rattle.slots.proofs.Tables.{good-at}
-use Rattle.slots.proofs.Alike.{Seen, seen}
-use Rattle.slots.proofs.AsSeen.{Same, keyless-same, shown-seen}
-use Rattle.slots.proofs.Puts.{load-put, move-put, clear-put}
-use Rattle.slots.proofs.Passed.{MovePassedOf, load-passed-of, move-passed-of, clear-passed-of}
+use Rattle.slot_calls.proofs.Alike.{Seen, seen}
+use Rattle.slot_calls.proofs.AsSeen.{Same, keyless-same, shown-seen}
+use Rattle.slot_calls.proofs.Puts.{load-put, move-put, clear-put}
+use Rattle.slot_calls.proofs.Passed.{MovePassedOf, load-passed-of, move-passed-of, clear-passed-of}
 use Rattle.plan.specs.declared.Plan.{Plan}
 use Rattle.traffic.specs.Traffic.{trafficRefusalOf, trafficAfter}
 use Rattle.traffic.proofs.Passed.{use-passed-of, traffic-passed-of}

@@ -4,11 +4,11 @@ use mathlib.Core.List.{List}
 use Prim.Native.Nat.{ℕ}
 use Rattle.fields.specs.declared.Asked.{Asked}
 use Rattle.slots.specs.declared.Slot.{Slot}
-use Rattle.slots.specs.declared.Changed.{Changed}
-use Rattle.slots.specs.declared.Shown.{Shown}
+use Rattle.slot_calls.specs.declared.Changed.{Changed}
+use Rattle.slot_calls.specs.declared.Shown.{Shown}
 use Rattle.slots.specs.Slots.{slotAt}
 use Rattle.slot_list.specs.List.{isNoTable}
-use Rattle.slots.specs.Calls.{loadedBy, movedBy, clearedBy, shownOf}
+use Rattle.slot_calls.specs.Calls.{loadedBy, movedBy, clearedBy, shownOf}
 use Rattle.ciphering.specs.Span.{Ciphered}
 use Rattle.traffic.specs.Traffic.{trafficAnswerOf}
 use Rattle.whole.specs.declared.Pdu.{Pdu}

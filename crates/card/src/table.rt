@@ -2,8 +2,8 @@
 // not refused and needs one: so a refused call has no key to leave behind.
 ghost use mathlib.Core.Path.{_≡_};
 ghost use Rattle.slots.specs.Slots.{keyless};
-ghost use Rattle.slots.specs.Calls.{shownOf};
-ghost use Rattle.slots.specs.Seen.{loadPut};
+ghost use Rattle.slot_calls.specs.Calls.{shownOf};
+ghost use Rattle.slot_calls.specs.Seen.{loadPut};
 ghost use Rattle.card.specs.Faces.{asking, pduAs};
 ghost use Rattle.ciphering.specs.Span.{cipheredAs};
 ghost use Rattle.card.specs.Table.{changedAs, loadedIn, movedIn, clearedIn, shownAs, shownIn, trafficAnswerIn, wholeAnswerIn};
@@ -12,13 +12,13 @@ ghost use Rattle.whole.specs.Whole.{judgedPlan, WholeMay, wholeAfter};
 use fields::Asked;
 use fields::Fields;
 use plan::Plan;
+use slot_calls::Put;
+use slot_calls::key_slot;
 use slot_list::fields_in;
 use slot_list::is_no_table;
 use slot_list::put_slot;
 use slot_list::slot_in;
-use slots::Put;
 use slots::Slot;
-use slots::key_slot;
 use traffic::traffic_of;
 use traffic::traffic_refusal;
 use whole::Pdu;
@@ -50,7 +50,7 @@ fn load_from(
         mnc,
     };
     let k = *key;
-    slots::load_of(bad, f, number, asked, k)
+    slot_calls::load_of(bad, f, number, asked, k)
 }
 
 // Fills an empty slot.
@@ -91,7 +91,7 @@ pub extern "C" fn card_load(
 pub extern "C" fn card_move(t: &mut [Slot], from: u64, to: u64, asked: u64) -> u8
     ensures { λ r. ⌜ changedAs r (now (t .exit)) ≡ movedIn (now (t .entry)) from to asked ⌝ }
 {
-    let refusal = slots::move_refusal(
+    let refusal = slot_calls::move_refusal(
         is_no_table(t),
         fields_in(t, from),
         fields_in(t, to),
@@ -99,9 +99,9 @@ pub extern "C" fn card_move(t: &mut [Slot], from: u64, to: u64, asked: u64) -> u
         to,
         asked,
     );
-    let put = slots::move_of(refusal, slot_in(t, key_slot(refusal, from)), asked);
+    let put = slot_calls::move_of(refusal, slot_in(t, key_slot(refusal, from)), asked);
     put_slot(t, to, put);
-    put_slot(t, from, slots::emptied(put))
+    put_slot(t, from, slot_calls::emptied(put))
 }
 
 // Empties a filled slot.
@@ -109,7 +109,7 @@ pub extern "C" fn card_move(t: &mut [Slot], from: u64, to: u64, asked: u64) -> u
 pub extern "C" fn card_clear(t: &mut [Slot], number: u64) -> u8
     ensures { λ r. ⌜ changedAs r (now (t .exit)) ≡ clearedIn (now (t .entry)) number ⌝ }
 {
-    let put = slots::clear_of(is_no_table(t), fields_in(t, number), number);
+    let put = slot_calls::clear_of(is_no_table(t), fields_in(t, number), number);
     put_slot(t, number, put)
 }
 
@@ -128,7 +128,7 @@ fn show_from<'a>(
 ) -> u8
     ensures { λ r. ⌜ shownAs r (now (found .exit)) (now (version .exit)) (now (algorithm .exit)) (now (usage .exit)) (now (side .exit)) (now (place .exit)) (now (mcc .exit)) (now (mnc .exit)) ≡ shownOf bad (keyless f) number ⌝ }
 {
-    let s = slots::read_of(bad, f, number);
+    let s = slot_calls::read_of(bad, f, number);
     let f = s.fields;
     *found = s.number;
     *version = f.version;

@@ -8,7 +8,7 @@ use lib.ListN.{length, getD}
 use Rattle.laws.specs.Choice.{pick}
 use Rattle.slots.specs.declared.Slot.{Slot}
 use Rattle.slots.specs.Slots.{isFilled}
-use Rattle.slots.specs.Seen.{slotAs}
+use Rattle.slot_calls.specs.Seen.{slotAs}
 use Rattle.agreement.specs.Agreement.{agrees}
 
 -- an odd count leaves the last pair without its after number

@@ -1,8 +1,8 @@
 // A flat list of pairs: before number, after number, and so on. One that is missing counts as 0, which is no record's number.
 use agreement::agrees;
+use slot_calls::slot_or_empty;
 use slots::Slot;
 use slots::is_filled;
-use slots::slot_or_empty;
 ghost use mathlib.Core.Path.{_≡_};
 ghost use Prim.Native.Nat.{_<_, _≤_};
 ghost use Rattle.conversion.specs.Pairs.{pairCount, numberOn, namedOn, isThere, misnamesOn, misnames, differs, firstMisnaming, firstDiffering, leftOut, leavesOut};

@@ -14,7 +14,7 @@ use Rattle.refusals.specs.Numbers.{pairListBad, pairDiffers}
 use Rattle.fields.proofs.Ranges.{between-low, between-high}
 use Rattle.slots.specs.declared.Slot.{Slot}
 use Rattle.slots.specs.Slots.{isFilled}
-use Rattle.slots.specs.Seen.{slotAs}
+use Rattle.slot_calls.specs.Seen.{slotAs}
 use Rattle.record_reader.specs.Record.{Entry}
 use Rattle.agreement.specs.Agreement.{agrees}
 use Rattle.conversion.specs.declared.Checked.{Checked}

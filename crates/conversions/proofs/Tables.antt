@@ -15,8 +15,8 @@ use Rattle.fields.specs.Fields.{isSlotNumber}
 use Rattle.fields.proofs.Ranges.{between-low, between-high}
 use Rattle.slots.specs.declared.Slot.{Slot}
 use Rattle.slots.specs.Slots.{isFilled, empty, emptyTable, nil, slotAt, withSlot}
-use Rattle.slots.specs.Seen.{slotAs}
-use Rattle.slots.proofs.Left.{slot-stored, slot-other}
+use Rattle.slot_calls.specs.Seen.{slotAs}
+use Rattle.slot_calls.proofs.Left.{slot-stored, slot-other}
 use Rattle.record_text.specs.Text.{formText, InCode, Good}
 use Rattle.record_reader.specs.declared.RecordRead.{RecordRead}
 use Rattle.record_reader.specs.Record.{Entry, startsForm, entryRead, recordRead}

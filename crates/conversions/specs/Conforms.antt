@@ -5,7 +5,7 @@ use mathlib.Core.Bool.{Bool, true}
 use mathlib.Core.Logic.{_⊎_}
 use mathlib.Core.List.{List, [], _∷_, _++_}
 use Prim.Native.Nat.{ℕ}
-use Rattle.slots.specs.Rights.{within}
+use Rattle.rights.specs.Rights.{within}
 use Rattle.record_text.specs.Text.{formText, Good}
 use Rattle.record_reader.specs.Record.{Entry}
 

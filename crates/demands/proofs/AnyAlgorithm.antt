@@ -13,9 +13,9 @@ use Rattle.refusals.specs.Numbers.{done}
 use Rattle.fields.specs.Fields.{isAlgorithm, noFields}
 use Rattle.fields.proofs.Ranges.{between-low}
 use Rattle.slots.specs.declared.Slot.{Slot}
-use Rattle.slots.specs.declared.Shown.{Shown}
+use Rattle.slot_calls.specs.declared.Shown.{Shown}
 use Rattle.slots.specs.Slots.{isEmpty, isFilled, isBad, hasBad, nil, slotAt}
-use Rattle.slots.specs.Calls.{moveRefusalOf, slotRefusalOf, clearRefusalOf, shownOf}
+use Rattle.slot_calls.specs.Calls.{moveRefusalOf, slotRefusalOf, clearRefusalOf, shownOf}
 use Rattle.slot_list.specs.List.{isNoTable}
 use Rattle.card.specs.Table.{movedIn, clearedIn, shownIn}
 use Rattle.demands.specs.Before.{withAlgorithm}

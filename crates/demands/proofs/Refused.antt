@@ -13,10 +13,10 @@ use Rattle.laws.specs.Choice.{pick}
 use Rattle.refusals.specs.Numbers.{done, recordTextBad}
 use Rattle.fields.specs.declared.Asked.{Asked}
 use Rattle.slots.specs.declared.Slot.{Slot}
-use Rattle.slots.specs.declared.Shown.{Shown}
+use Rattle.slot_calls.specs.declared.Shown.{Shown}
 use Rattle.fields.specs.Fields.{noFields}
 use Rattle.slots.specs.Slots.{slotAt}
-use Rattle.slots.specs.Calls.{loadRefusalOf, moveRefusalOf, clearRefusalOf}
+use Rattle.slot_calls.specs.Calls.{loadRefusalOf, moveRefusalOf, clearRefusalOf}
 use Rattle.record_reader.specs.Lines.{noKey}
 use Rattle.lines.specs.Line.{lineOf, columnOf}
 use Rattle.record_reader.specs.Record.{recordRead}

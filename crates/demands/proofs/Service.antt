@@ -15,10 +15,10 @@ use Rattle.fields.specs.Fields.{isAlgorithm, outOfService}
 use Rattle.fields.proofs.Ranges.{between-low, between-high}
 use Rattle.slots.specs.declared.Slot.{Slot}
 use Rattle.slots.specs.Slots.{isFilled, slotAt}
-use Rattle.slots.specs.Rights.{includes}
-use Rattle.slots.specs.Calls.{slotRefusalOf}
+use Rattle.rights.specs.Rights.{includes}
+use Rattle.slot_calls.specs.Calls.{slotRefusalOf}
 use Rattle.slots.proofs.Tables.{filled-else, good-at}
-use Rattle.slots.proofs.Passed.{load-passed-of}
+use Rattle.slot_calls.proofs.Passed.{load-passed-of}
 use Rattle.slot_list.specs.List.{isTable, isNoTable}
 use Rattle.card.specs.Table.{loadedIn, trafficAnswerIn, wholeAnswerIn}
 use Rattle.traffic.specs.Traffic.{sendsOutOfService, useRefusalOf}

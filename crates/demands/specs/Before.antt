@@ -7,8 +7,8 @@ use lib.Dec.{eqb}
 use lib.ListN.{length}
 use Rattle.refusals.specs.Numbers.{done, codeUnknown, directionNotInUse, ivNot10, ivSideWrong, tableBad, refuse}
 use Rattle.slots.specs.declared.Slot.{Slot}
-use Rattle.slots.specs.Rights.{isDirection, includes}
-use Rattle.slots.specs.Calls.{slotRefusalOf}
+use Rattle.rights.specs.Rights.{isDirection, includes}
+use Rattle.slot_calls.specs.Calls.{slotRefusalOf}
 use Rattle.traffic.specs.Traffic.{onSide}
 
 unfoldable pub useRefusalBefore : Bool → Slot → ℕ → ℕ → List ℕ → ℕ

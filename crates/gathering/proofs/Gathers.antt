@@ -13,7 +13,7 @@ use Rattle.refusals.specs.Numbers.{done}
 use Rattle.fields.specs.Fields.{isSlotNumber}
 use Rattle.slots.specs.declared.Slot.{Slot}
 use Rattle.slots.specs.Slots.{isFilled, withSlot}
-use Rattle.slots.specs.Seen.{slotAs}
+use Rattle.slot_calls.specs.Seen.{slotAs}
 use Rattle.record_reader.specs.declared.RecordRead.{RecordRead}
 use Rattle.forms.specs.Form.{Outcome, found, wrong, readAt}
 use Rattle.record_reader.specs.Record.{Entry, recordForm, startsForm, readAnswer, recordRead}

@@ -8,7 +8,7 @@ use Rattle.laws.specs.Choice.{pick}
 use Rattle.refusals.specs.Numbers.{done}
 use Rattle.slots.specs.declared.Slot.{Slot}
 use Rattle.slots.specs.Slots.{isFilled, emptyTable, withSlot}
-use Rattle.slots.specs.Seen.{slotAs}
+use Rattle.slot_calls.specs.Seen.{slotAs}
 use Rattle.record_reader.specs.declared.RecordRead.{RecordRead}
 use Rattle.record_reader.specs.Record.{recordRead}
 use Rattle.gathering.specs.declared.Gathered.{Gathered}

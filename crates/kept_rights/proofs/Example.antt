@@ -5,7 +5,7 @@ use Prim.Native.Nat.{ℕ}
 use lib.ListN.{replicate}
 use Rattle.slots.specs.declared.Slot.{Slot}
 use Rattle.slots.specs.Slots.{allZero, isEmpty, isFilled, isBad, hasBad, empty}
-use Rattle.slots.specs.Calls.{moveRefusalOf, slotRefusalOf, clearRefusalOf}
+use Rattle.slot_calls.specs.Calls.{moveRefusalOf, slotRefusalOf, clearRefusalOf}
 use Rattle.record_reader.specs.Record.{Entry}
 use Rattle.two_runs.specs.Calls.{Call, move, clear}
 use Rattle.two_runs.specs.Step.{Seen}

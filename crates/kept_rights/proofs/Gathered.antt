@@ -11,13 +11,13 @@ use Rattle.laws.specs.Choice.{pick}
 use Rattle.refusals.specs.Numbers.{done}
 use Rattle.fields.specs.Fields.{isSlotNumber, askedOf}
 use Rattle.slots.specs.declared.Slot.{Slot}
-use Rattle.slots.specs.declared.Changed.{Changed}
+use Rattle.slot_calls.specs.declared.Changed.{Changed}
 use Rattle.slots.specs.Slots.{isFilled, empty, emptyTable, slotAt, withSlot}
-use Rattle.slots.specs.Seen.{slotAs}
-use Rattle.slots.specs.Calls.{loaded}
+use Rattle.slot_calls.specs.Seen.{slotAs}
+use Rattle.slot_calls.specs.Calls.{loaded}
 use Rattle.slots.proofs.Tables.{filled-not-bad, good-set}
-use Rattle.slots.proofs.Passed.{load-passed}
-use Rattle.slots.proofs.Left.{Good, empty-table-good}
+use Rattle.slot_calls.proofs.Passed.{load-passed}
+use Rattle.slot_calls.proofs.Left.{Good, empty-table-good}
 use Rattle.record_reader.specs.declared.RecordRead.{RecordRead}
 use Rattle.record_reader.specs.Record.{Entry, recordRead}
 use Rattle.loading.specs.declared.Loaded.{Loaded}

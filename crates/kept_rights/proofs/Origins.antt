@@ -15,9 +15,9 @@ use Rattle.refusals.specs.Numbers.{done}
 use Rattle.fields.specs.Fields.{isSlotNumber}
 use Rattle.slots.specs.declared.Slot.{Slot}
 use Rattle.slots.specs.Slots.{isFilled, slotAt}
-use Rattle.slots.specs.Calls.{moveRefusal}
-use Rattle.slots.proofs.Passed.{move-passed}
-use Rattle.slots.proofs.Left.{Good, load-good, move-good, clear-good}
+use Rattle.slot_calls.specs.Calls.{moveRefusal}
+use Rattle.slot_calls.proofs.Passed.{move-passed}
+use Rattle.slot_calls.proofs.Left.{Good, load-good, move-good, clear-good}
 use Rattle.two_runs.specs.Calls.{Call, load, move, clear, read, traffic, Origin, present}
 use Rattle.two_runs.specs.Card.{ourCard, step}
 use Rattle.two_runs.specs.Trace.{Trace, atStart, put, traced}

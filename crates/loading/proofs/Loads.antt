@@ -13,9 +13,9 @@ use Rattle.laws.proofs.Cases.{pick-cases}
 use Rattle.refusals.specs.Numbers.{done, recordTextBad}
 use Rattle.fields.specs.declared.Asked.{Asked}
 use Rattle.slots.specs.declared.Slot.{Slot}
-use Rattle.slots.specs.declared.Changed.{Changed}
+use Rattle.slot_calls.specs.declared.Changed.{Changed}
 use Rattle.fields.specs.Fields.{askedOf}
-use Rattle.slots.specs.Calls.{loaded}
+use Rattle.slot_calls.specs.Calls.{loaded}
 use Rattle.record_reader.specs.declared.RecordRead.{RecordRead}
 use Rattle.record_text.specs.Text.{linesText, formText}
 use Rattle.forms.specs.Form.{Outcome, found, wrong, readAt}

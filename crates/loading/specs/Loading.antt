@@ -9,7 +9,7 @@ use Rattle.refusals.specs.Numbers.{done}
 use Rattle.slots.specs.declared.Slot.{Slot}
 use Rattle.fields.specs.Fields.{askedOf}
 use Rattle.slots.specs.Slots.{emptyTable}
-use Rattle.slots.specs.Calls.{loaded}
+use Rattle.slot_calls.specs.Calls.{loaded}
 use Rattle.record_reader.specs.Record.{recordRead}
 use Rattle.loading.specs.declared.Loaded.{Loaded}
 

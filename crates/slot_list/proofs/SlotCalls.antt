@@ -22,7 +22,7 @@ use denote.Triple.Entry.{Res, alive}
 use denote.Slice.{shr-slice-copy}
 use Rattle.fields.specs.declared.Fields.{Fields}
 use Rattle.slots.specs.declared.Slot.{Slot}
-use Rattle.slots.specs.declared.Put.{Put}
+use Rattle.slot_calls.specs.declared.Put.{Put}
 use Rattle.slot_list.specs.List.{isNoTable, fieldsIn, slotIn, putIn}
 use Rattle.walks.proofs.CallRules.{Of, calls-fn}
 use Rattle.walks.proofs.Shared.{LentShared, lends-read, read-back}

@@ -11,14 +11,14 @@ use denote.RattleType.{RattleType}
 use denote.Laws.{Is, Tells, Makes, Copy}
 use denote.Struct.Laws as LL
 use Rattle.slots.specs.declared.Slot.{Slot}
-use Rattle.slots.specs.declared.Put.{Put}
+use Rattle.slot_calls.specs.declared.Put.{Put}
 use Rattle.fields.specs.declared.Fields.{Fields}
 use Rattle.fields.proofs.Fields as F
 use Rattle.fields.proofs.Fields.Laws as F′
 use Rattle.slots.proofs.Slot as S
 use Rattle.slots.proofs.Slot.Laws as S′
-use Rattle.slots.proofs.Put as P
-use Rattle.slots.proofs.Put.Laws as P′
+use Rattle.slot_calls.proofs.Put as P
+use Rattle.slot_calls.proofs.Put.Laws as P′
 
 -- a slot
 abbrev pub R : RattleType

@@ -10,7 +10,7 @@ use Rattle.refusals.specs.Numbers.{done}
 use Rattle.fields.specs.declared.Fields.{Fields}
 use Rattle.fields.specs.Fields.{isSlotNumber}
 use Rattle.slots.specs.declared.Slot.{Slot}
-use Rattle.slots.specs.declared.Put.{Put}
+use Rattle.slot_calls.specs.declared.Put.{Put}
 use Rattle.slots.specs.Slots.{hasBad, empty, nil}
 
 abbrev pub isTable : List Slot → Bool

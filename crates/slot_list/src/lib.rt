@@ -5,7 +5,7 @@ ghost use mathlib.Core.Bool.{_||_, not};
 ghost use Rattle.slots.specs.Slots.{isFilled, isBad};
 ghost use Rattle.slot_list.specs.List.{isNoTable, placeOf, fieldsIn, slotIn, placeTo, putIn};
 use fields::Fields;
-use slots::Put;
+use slot_calls::Put;
 use slots::Slot;
 
 fn or_bad(bad: bool, slot: Slot) -> bool

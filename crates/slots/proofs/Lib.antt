@@ -1,10 +1,2 @@
 pub mod Zeros
 pub mod Tables
-pub mod Passed
-pub mod Rights
-pub mod Left
-pub mod AskedUse
-pub mod Rows
-pub mod Alike
-pub mod AsSeen
-pub mod Puts

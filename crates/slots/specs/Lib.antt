@@ -1,4 +1,1 @@
 pub mod Slots
-pub mod Rights
-pub mod Calls
-pub mod Seen

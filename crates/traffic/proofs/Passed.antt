@@ -9,9 +9,9 @@ use lib.ListN.{length}
 use Rattle.laws.proofs.Cases.{unpicked, unpicked-own}
 use Rattle.slots.specs.declared.Slot.{Slot}
 use Rattle.slots.specs.Slots.{hasBad, slotAt}
-use Rattle.slots.specs.Rights.{isDirection, includes}
-use Rattle.slots.specs.Calls.{slotRefusalOf}
-use Rattle.slots.proofs.Passed.{SlotPassedOf, slot-passed-of}
+use Rattle.rights.specs.Rights.{isDirection, includes}
+use Rattle.slot_calls.specs.Calls.{slotRefusalOf}
+use Rattle.slot_calls.proofs.Passed.{SlotPassedOf, slot-passed-of}
 use Rattle.traffic.specs.Traffic.{onSide, sendsOutOfService, useRefusalOf, trafficRefusalOf, TrafficMay, trafficRefusal}
 use Rattle.ciphering.proofs.Passed.{SpanPassed, span-passed}
 

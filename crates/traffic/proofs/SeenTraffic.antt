@@ -8,9 +8,9 @@ use lib.Dec.{eqb}
 use Rattle.laws.specs.Choice.{pick}
 use Rattle.refusals.specs.Numbers.{done}
 use Rattle.slots.specs.declared.Slot.{Slot}
-use Rattle.slots.specs.Calls.{slotRefusalOf}
-use Rattle.slots.proofs.Alike.{same-fields, same-empty}
-use Rattle.slots.proofs.AsSeen.{Same, unlooked}
+use Rattle.slot_calls.specs.Calls.{slotRefusalOf}
+use Rattle.slot_calls.proofs.Alike.{same-fields, same-empty}
+use Rattle.slot_calls.proofs.AsSeen.{Same, unlooked}
 use Rattle.span.specs.Span.{xored}
 use Rattle.ciphering.specs.Span.{cipheredAs}
 use Rattle.traffic.specs.Traffic.{slotStream, useRefusalOf, trafficRefusalOf, afterJudging, trafficAfter, traffickedOf, trafficBlocksOf, trafficAnswerOf}

@@ -14,8 +14,8 @@ use Rattle.fields.specs.declared.Fields.{Fields}
 use Rattle.fields.specs.Fields.{outOfService}
 use Rattle.slots.specs.declared.Slot.{Slot}
 use Rattle.slots.specs.Slots.{hasBad, slotAt}
-use Rattle.slots.specs.Rights.{isDirection, includes}
-use Rattle.slots.specs.Calls.{slotRefusalOf}
+use Rattle.rights.specs.Rights.{isDirection, includes}
+use Rattle.slot_calls.specs.Calls.{slotRefusalOf}
 use Rattle.span.specs.Span.{xored, blocksUsed}
 use Rattle.keystream.specs.Stream.{keystream}
 use Rattle.ciphering.specs.Span.{spanRefusal, Ciphered, cipheredAs}

@@ -48,14 +48,14 @@ fn sends_out_of_service(direction: u64, f: Fields) -> bool
 pub fn use_refusal(bad: bool, f: Fields, direction: u64, number: u64, iv: &[u8]) -> u8
     ensures { λ r. ⌜ r ≡ useRefusalOf bad (keyless f) direction number (now (iv .entry)) ⌝ }
 {
-    let slot_refusal = slots::slot_refusal(f, number);
-    let not_in_use = !slots::use_includes(f.usage, direction);
+    let slot_refusal = slot_calls::slot_refusal(f, number);
+    let not_in_use = !rights::use_includes(f.usage, direction);
     let out_of_service = sends_out_of_service(direction, f);
     refuse(
         bad,
         refusals::TABLE,
         refuse(
-            !slots::is_direction(direction),
+            !rights::is_direction(direction),
             refusals::CODE,
             refuse(
                 slot_refusal != refusals::DONE,

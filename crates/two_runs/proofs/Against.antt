@@ -7,10 +7,10 @@ use lib.ListN.{getD, replicate}
 use Rattle.fields.specs.declared.Asked.{Asked}
 use Rattle.fields.specs.Fields.{storedOf}
 use Rattle.slots.specs.declared.Slot.{Slot}
-use Rattle.slots.specs.declared.Changed.{Changed}
-use Rattle.slots.specs.declared.Shown.{Shown}
+use Rattle.slot_calls.specs.declared.Changed.{Changed}
+use Rattle.slot_calls.specs.declared.Shown.{Shown}
 use Rattle.slots.specs.Slots.{empty, slotAt, withSlot}
-use Rattle.slots.specs.Calls.{moveRefusal, answered, loaded, moved, cleared, shown}
+use Rattle.slot_calls.specs.Calls.{moveRefusal, answered, loaded, moved, cleared, shown}
 use Rattle.traffic.specs.Traffic.{trafficRefusal, trafficBlocks, trafficked}
 use Rattle.whole.specs.Whole.{wholeRefusal, wholeBlocks, wholed}
 use Rattle.two_runs.specs.Calls.{Use, Origin}

@@ -8,9 +8,9 @@ use lib.Dec.{eqb}
 use Rattle.refusals.specs.Numbers.{done, slotEmpty, refuse}
 use Rattle.fields.specs.declared.Asked.{Asked}
 use Rattle.slots.specs.declared.Slot.{Slot}
-use Rattle.slots.specs.declared.Changed.{Changed}
+use Rattle.slot_calls.specs.declared.Changed.{Changed}
 use Rattle.slots.specs.Slots.{allZero, isEmpty, isFilled, isBad, hasBad, emptyTable}
-use Rattle.slots.specs.Calls.{loadRefusalOf, loadRefusal, answered, loaded}
+use Rattle.slot_calls.specs.Calls.{loadRefusalOf, loadRefusal, answered, loaded}
 use Rattle.two_runs.specs.Calls.{TwinCalls, load, end, more, other-key}
 use Rattle.two_runs.specs.Step.{told}
 use Rattle.two_runs.specs.Card.{Card, step}

@@ -11,7 +11,7 @@ use lib.Dec.{eqb, lit<}
 use Rattle.laws.specs.Bits.{bitOf, bitAt}
 use Rattle.slots.specs.declared.Slot.{Slot}
 use Rattle.slots.specs.Slots.{allZero, isEmpty, isFilled, isBad, hasBad, emptyTable, withSlot}
-use Rattle.slots.specs.Calls.{loadRefusalOf, slotRefusalOf}
+use Rattle.slot_calls.specs.Calls.{loadRefusalOf, slotRefusalOf}
 use Rattle.span.proofs.Laws.{xored-inside}
 use Rattle.span.proofs.Stream.{stream-lt}
 use Rattle.keystream.specs.Stream.{keystream}

@@ -12,7 +12,7 @@ use Rattle.laws.specs.Choice.{pick}
 use Rattle.laws.specs.Bits.{bitOf, bitAt}
 use Rattle.refusals.specs.Numbers.{done}
 use Rattle.slots.specs.Slots.{allZero, isEmpty, isFilled, isBad, hasBad}
-use Rattle.slots.specs.Calls.{slotRefusalOf}
+use Rattle.slot_calls.specs.Calls.{slotRefusalOf}
 use Rattle.span.proofs.Laws.{xored-inside}
 use Rattle.span.proofs.Stream.{stream-lt}
 use Rattle.keystream.specs.Stream.{keystream}

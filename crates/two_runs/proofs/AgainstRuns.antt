@@ -9,7 +9,7 @@ use lib.ListN.{getD}
 use Rattle.laws.specs.Bits.{bitOf, bitAt}
 use Rattle.slots.specs.declared.Slot.{Slot}
 use Rattle.slots.specs.Slots.{allZero, isEmpty, isFilled, isBad, hasBad, emptyTable, withSlot}
-use Rattle.slots.specs.Calls.{loadRefusalOf, slotRefusalOf, loaded}
+use Rattle.slot_calls.specs.Calls.{loadRefusalOf, slotRefusalOf, loaded}
 use Rattle.span.specs.Span.{xored}
 use Rattle.span.proofs.Laws.{xored-inside}
 use Rattle.span.proofs.Stream.{stream-lt}

@@ -10,7 +10,7 @@ use Rattle.refusals.specs.Numbers.{done, ivSideWrong, refuse}
 use Rattle.fields.specs.Fields.{storedOf}
 use Rattle.slots.specs.Slots.{allZero, isEmpty, isFilled, isBad, hasBad, empty, emptyTable, withSlot}
 use Rattle.slots.specs.declared.Slot.{Slot}
-use Rattle.slots.specs.Calls.{loadRefusalOf, moveRefusalOf, slotRefusalOf}
+use Rattle.slot_calls.specs.Calls.{loadRefusalOf, moveRefusalOf, slotRefusalOf}
 use Rattle.ciphering.specs.Span.{spanRefusal}
 use Rattle.traffic.specs.Traffic.{useRefusalOf, trafficRefusalOf, trafficRefusal}
 use Rattle.two_runs.specs.Calls.{span, Call, load, move, traffic, loadAt, end, more, same}

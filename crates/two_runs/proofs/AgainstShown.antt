@@ -5,7 +5,7 @@ use Prim.Native.Nat.{ℕ, _+_}
 use native.Mathlib.Omega.{arith}
 use lib.ListN.{length, length-append, length-replicate, replicate}
 use Rattle.fields.specs.declared.Fields.{Fields}
-use Rattle.slots.specs.Calls.{shown}
+use Rattle.slot_calls.specs.Calls.{shown}
 use Rattle.span.specs.Span.{blocksUsed}
 use Rattle.span.proofs.Laws.{length-xored}
 use Rattle.keystream.specs.Stream.{keystream}

@@ -10,7 +10,7 @@ use Rattle.laws.specs.Choice.{pick}
 use Rattle.fields.specs.Fields.{outOfService}
 use Rattle.slots.specs.declared.Slot.{Slot}
 use Rattle.slots.specs.Slots.{allZero, isEmpty, isFilled, isBad, hasBad, empty, slotAt, emptyTable, withSlot}
-use Rattle.slots.specs.Calls.{moveRefusalOf, loaded, moved, cleared, shown}
+use Rattle.slot_calls.specs.Calls.{moveRefusalOf, loaded, moved, cleared, shown}
 use Rattle.traffic.specs.Traffic.{trafficRefusal, trafficBlocks, trafficked}
 use Rattle.whole.specs.Whole.{wholeRefusal, wholeBlocks, wholed}
 use Rattle.two_runs.specs.Calls.{move, read, end, more, same, slot, other-present, Starts}

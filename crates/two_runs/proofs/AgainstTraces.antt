@@ -10,7 +10,7 @@ use lib.ListN.{getD}
 use Rattle.laws.specs.Choice.{pick}
 use Rattle.slots.specs.declared.Slot.{Slot}
 use Rattle.slots.specs.Slots.{allZero, isEmpty, isFilled, isBad, hasBad, empty, withSlot}
-use Rattle.slots.specs.Calls.{loadRefusalOf, moveRefusalOf, slotRefusalOf, clearRefusalOf, clearRefusal, answered, loaded, shown}
+use Rattle.slot_calls.specs.Calls.{loadRefusalOf, moveRefusalOf, slotRefusalOf, clearRefusalOf, clearRefusal, answered, loaded, shown}
 use Rattle.two_runs.specs.Calls.{load, move, clear, read, end, more, same}
 use Rattle.two_runs.specs.Step.{reading}
 use Rattle.two_runs.specs.Card.{Card, step}

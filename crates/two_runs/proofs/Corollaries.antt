@@ -10,8 +10,8 @@ use Rattle.refusals.specs.Numbers.{done}
 use Rattle.fields.specs.Fields.{isSlotNumber}
 use Rattle.slots.specs.declared.Slot.{Slot}
 use Rattle.slots.specs.Slots.{slotAt, hasBad}
-use Rattle.slots.specs.Rights.{within}
-use Rattle.slots.proofs.Passed.{SlotPassed}
+use Rattle.rights.specs.Rights.{within}
+use Rattle.slot_calls.proofs.Passed.{SlotPassed}
 use Rattle.two_runs.specs.Calls.{Use, Work, Call, traffic, Origin, Twins, end, more, same, Starts}
 use Rattle.two_runs.specs.Card.{ourCard}
 use Rattle.two_runs.specs.Run.{callAt, seenAt, tableAt, traceAt}

@@ -12,8 +12,8 @@ use Rattle.laws.specs.Bits.{bitAt}
 use Rattle.refusals.specs.Numbers.{done}
 use Rattle.slots.specs.declared.Slot.{Slot}
 use Rattle.slots.specs.Slots.{emptyTable, slotAt}
-use Rattle.slots.specs.Rights.{includes}
-use Rattle.slots.proofs.Rights.{within-includes}
+use Rattle.rights.specs.Rights.{includes}
+use Rattle.rights.proofs.Rights.{within-includes}
 use Rattle.two_runs.specs.Calls.{Use, Work, Call, read, traffic, Origin, Twins, end, more, Starts}
 use Rattle.two_runs.specs.Step.{Seen}
 use Rattle.two_runs.specs.Card.{Card, step, ourCard}

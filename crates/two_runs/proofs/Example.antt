@@ -10,7 +10,7 @@ use Rattle.fields.specs.declared.Asked.{Asked}
 use Rattle.fields.specs.Fields.{storedOf}
 use Rattle.slots.specs.declared.Slot.{Slot}
 use Rattle.slots.specs.Slots.{allZero, isEmpty, isFilled, isBad, hasBad, emptyTable, withSlot}
-use Rattle.slots.specs.Calls.{loadRefusalOf, moveRefusalOf, slotRefusalOf, clearRefusalOf}
+use Rattle.slot_calls.specs.Calls.{loadRefusalOf, moveRefusalOf, slotRefusalOf, clearRefusalOf}
 use Rattle.span.specs.Span.{blocksUsed}
 use Rattle.ciphering.specs.Span.{spanRefusal}
 use Rattle.traffic.specs.Traffic.{useRefusalOf, trafficRefusalOf, trafficBlocksOf}

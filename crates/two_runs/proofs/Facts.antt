@@ -15,15 +15,15 @@ use Rattle.fields.specs.declared.Asked.{Asked}
 use Rattle.fields.specs.Fields.{askedOf}
 use Rattle.fields.proofs.Ranges.{place-high}
 use Rattle.slots.specs.declared.Slot.{Slot}
-use Rattle.slots.specs.declared.Changed.{Changed}
-use Rattle.slots.specs.declared.Shown.{Shown}
+use Rattle.slot_calls.specs.declared.Changed.{Changed}
+use Rattle.slot_calls.specs.declared.Shown.{Shown}
 use Rattle.slots.specs.Slots.{hasBad, isFilled, empty, slotAt, withSlot}
-use Rattle.slots.specs.Rights.{within, includes}
-use Rattle.slots.specs.Calls.{moveRefusal, answered, moved}
+use Rattle.rights.specs.Rights.{within, includes}
+use Rattle.slot_calls.specs.Calls.{moveRefusal, answered, moved}
 use Rattle.slots.proofs.Tables.{filled-else, good-at}
-use Rattle.slots.proofs.Passed.{LoadPassed, MovePassed, SlotPassed, ClearPassed, load-passed, move-passed, clear-passed}
-use Rattle.slots.proofs.Left.{slot-stored, slot-other, to-filled, move-arrives, move-empties}
-use Rattle.slots.proofs.Alike.{Alike, AlikeChanged, bad-alike, fields-alike, slot-refusal-alike, load-alike, move-alike, clear-alike, read-alike}
+use Rattle.slot_calls.proofs.Passed.{LoadPassed, MovePassed, SlotPassed, ClearPassed, load-passed, move-passed, clear-passed}
+use Rattle.slot_calls.proofs.Left.{slot-stored, slot-other, to-filled, move-arrives, move-empties}
+use Rattle.slot_calls.proofs.Alike.{Alike, AlikeChanged, bad-alike, fields-alike, slot-refusal-alike, load-alike, move-alike, clear-alike, read-alike}
 use Rattle.span.specs.Span.{xored}
 use Rattle.span.proofs.Within.{Beside}
 use Rattle.span.proofs.Laws.{length-xored, xored-outside}

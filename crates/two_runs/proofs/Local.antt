@@ -10,9 +10,9 @@ use Rattle.fields.specs.declared.Asked.{Asked}
 use Rattle.fields.specs.Fields.{storedOf}
 use Rattle.slots.specs.declared.Slot.{Slot}
 use Rattle.slots.specs.Slots.{empty, slotAt, withSlot}
-use Rattle.slots.specs.Rights.{within, includes}
-use Rattle.slots.proofs.Passed.{LoadPassed, MovePassed, SlotPassed, ClearPassed}
-use Rattle.slots.proofs.Alike.{Alike}
+use Rattle.rights.specs.Rights.{within, includes}
+use Rattle.slot_calls.proofs.Passed.{LoadPassed, MovePassed, SlotPassed, ClearPassed}
+use Rattle.slot_calls.proofs.Alike.{Alike}
 use Rattle.two_runs.specs.Calls.{Use, Work, spanOf}
 use Rattle.two_runs.specs.Step.{Seen, Step}
 use Rattle.two_runs.specs.Card.{Card}

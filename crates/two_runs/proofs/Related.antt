@@ -18,11 +18,11 @@ use Rattle.fields.specs.Fields.{isSlotNumber, isAlgorithm, isUse}
 use Rattle.fields.proofs.Ranges.{between-low}
 use Rattle.slots.specs.declared.Slot.{Slot}
 use Rattle.slots.specs.Slots.{allZero, isEmpty, isFilled, empty, slotAt, withSlot}
-use Rattle.slots.specs.Rights.{within}
-use Rattle.slots.proofs.Rights.{within-same, within-trans}
+use Rattle.rights.specs.Rights.{within}
+use Rattle.rights.proofs.Rights.{within-same, within-trans}
 use Rattle.slots.proofs.Tables.{good-at}
-use Rattle.slots.proofs.Left.{slot-stored, slot-other}
-use Rattle.slots.proofs.Alike.{Alike}
+use Rattle.slot_calls.proofs.Left.{slot-stored, slot-other}
+use Rattle.slot_calls.proofs.Alike.{Alike}
 use Rattle.two_runs.specs.Calls.{Call, load, move, clear, read, traffic, Origin, loadAt, present, TwinCalls, same, other-key, TwinSlots, same-slot, other-present, Starts}
 use Rattle.two_runs.specs.Step.{Seen, Step}
 use Rattle.two_runs.specs.Card.{Card, step}

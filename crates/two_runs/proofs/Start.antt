@@ -9,8 +9,8 @@ use lib.ListN.{length, getD}
 use Rattle.slots.specs.declared.Slot.{Slot}
 use Rattle.slots.specs.Slots.{isEmpty, isFilled, isBad, nil, emptyTable}
 use Rattle.slots.proofs.Tables.{filled-not-empty}
-use Rattle.slots.proofs.Left.{empty-table-good}
-use Rattle.slots.proofs.Alike.{seen, Alike}
+use Rattle.slot_calls.proofs.Left.{empty-table-good}
+use Rattle.slot_calls.proofs.Alike.{seen, Alike}
 use Rattle.two_runs.specs.Calls.{Origin, TwinSlots, same-slot, other-present, TwinTables, no-slot, slot, Starts}
 
 -- a slot that is neither filled nor bad is empty

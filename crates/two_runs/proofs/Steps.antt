@@ -5,14 +5,14 @@ use mathlib.Core.Path.{_≡_, ap}
 use Prim.Native.Nat.{ℕ}
 use Rattle.fields.specs.declared.Asked.{Asked}
 use Rattle.slots.specs.declared.Slot.{Slot}
-use Rattle.slots.specs.declared.Changed.{Changed}
-use Rattle.slots.specs.declared.Shown.{Shown}
+use Rattle.slot_calls.specs.declared.Changed.{Changed}
+use Rattle.slot_calls.specs.declared.Shown.{Shown}
 use Rattle.slots.specs.Slots.{emptyTable}
 use Rattle.slots.proofs.empty_table.Reads as slots-empty-table
-use Rattle.slots.proofs.load.Reads as slots-load
-use Rattle.slots.proofs.move_slot.Reads as slots-move-slot
-use Rattle.slots.proofs.clear.Reads as slots-clear
-use Rattle.slots.proofs.read.Reads as slots-read
+use Rattle.slot_calls.proofs.load.Reads as slots-load
+use Rattle.slot_calls.proofs.move_slot.Reads as slots-move-slot
+use Rattle.slot_calls.proofs.clear.Reads as slots-clear
+use Rattle.slot_calls.proofs.read.Reads as slots-read
 use Rattle.two_runs.specs.Calls.{load, move, clear, read}
 use Rattle.two_runs.specs.Step.{changing, reading}
 use Rattle.two_runs.specs.Card.{ourCard, step}

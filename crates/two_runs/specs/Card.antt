@@ -3,9 +3,9 @@ use mathlib.Core.List.{List}
 use Prim.Native.Nat.{ℕ}
 use Rattle.fields.specs.declared.Asked.{Asked}
 use Rattle.slots.specs.declared.Slot.{Slot}
-use Rattle.slots.specs.declared.Changed.{Changed}
-use Rattle.slots.specs.declared.Shown.{Shown}
-use Rattle.slots.specs.Calls.{loaded, moved, cleared, shown}
+use Rattle.slot_calls.specs.declared.Changed.{Changed}
+use Rattle.slot_calls.specs.declared.Shown.{Shown}
+use Rattle.slot_calls.specs.Calls.{loaded, moved, cleared, shown}
 use Rattle.traffic.specs.Traffic.{trafficRefusal, trafficBlocks, trafficked}
 use Rattle.whole.specs.declared.Pdu.{Pdu}
 use Rattle.whole.specs.Whole.{wholeRefusal, wholeBlocks, wholed}

@@ -12,7 +12,7 @@ use Rattle.fields.specs.declared.Fields.{Fields}
 use Rattle.fields.specs.Fields.{isSlotNumber, storedOf}
 use Rattle.slots.specs.declared.Slot.{Slot}
 use Rattle.slots.specs.Slots.{isEmpty, nil, emptyTable, slotAt}
-use Rattle.slots.specs.Rights.{within}
+use Rattle.rights.specs.Rights.{within}
 use Rattle.two_runs.specs.Calls.{Use, Work, spanOf, Call, load, move, clear, read, traffic, Origin, loadAt, present, Twins, Starts}
 use Rattle.two_runs.specs.Step.{Seen}
 use Rattle.two_runs.specs.Card.{Card}

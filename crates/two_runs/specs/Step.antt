@@ -3,8 +3,8 @@ use mathlib.Core.List.{List, []}
 use Prim.Native.Nat.{ℕ}
 use Rattle.fields.specs.declared.Fields.{Fields}
 use Rattle.slots.specs.declared.Slot.{Slot}
-use Rattle.slots.specs.declared.Changed.{Changed}
-use Rattle.slots.specs.declared.Shown.{Shown}
+use Rattle.slot_calls.specs.declared.Changed.{Changed}
+use Rattle.slot_calls.specs.declared.Shown.{Shown}
 use Rattle.slots.specs.Slots.{noFields}
 
 -- the refusal; the block count; a record read, its number and fields; the buffer afterwards. What a call does not give is 0, or no byte

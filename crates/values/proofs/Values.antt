@@ -14,7 +14,7 @@ use Rattle.algorithms.specs.Algorithm.{combining, digitOf, nameOf}
 use Rattle.tea.specs.Mixing.{expandedByte, mixedValue}
 use Rattle.span.specs.Span.{blocksUsed}
 use Rattle.slots.specs.Slots.{allZero, isEmpty, isFilled, isBad, hasBad}
-use Rattle.slots.specs.Calls.{moveRefusalOf}
+use Rattle.slot_calls.specs.Calls.{moveRefusalOf}
 use Rattle.writing.specs.Text.{digitsWithin, digits, hexDigit, hexText}
 use Rattle.record_text.specs.Text.{useWord, linesText, formText}
 use Rattle.forms.specs.Form.{readAt, _>>=_, either, literal}

@@ -9,7 +9,7 @@ use Rattle.span.specs.Span.{blocksUsed}
 use Rattle.fields.specs.Fields.{askedOf}
 use Rattle.slots.specs.declared.Slot.{Slot}
 use Rattle.slots.specs.Slots.{empty}
-use Rattle.slots.specs.Calls.{moveRefusal}
+use Rattle.slot_calls.specs.Calls.{moveRefusal}
 use Rattle.record_reader.specs.declared.RecordRead.{RecordRead}
 use Rattle.writing.specs.Text.{ascii}
 use Rattle.record_reader.specs.Record.{recordRead}

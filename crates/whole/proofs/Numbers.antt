@@ -9,8 +9,8 @@ use Rattle.laws.proofs.Cases.{pick-cases}
 use Rattle.fields.specs.Fields.{isSlotNumber}
 use Rattle.slots.specs.declared.Slot.{Slot}
 use Rattle.slots.specs.Slots.{isEmpty}
-use Rattle.slots.specs.Rights.{isDirection, includes}
-use Rattle.slots.specs.Calls.{slotRefusalOf}
+use Rattle.rights.specs.Rights.{isDirection, includes}
+use Rattle.slot_calls.specs.Calls.{slotRefusalOf}
 use Rattle.span.specs.Span.{longestBuffer}
 use Rattle.plan.specs.Plan.{codesUnknown, partsDontFit, planRefusal}
 use Rattle.traffic.specs.Traffic.{onSide, sendsOutOfService, useRefusalOf}

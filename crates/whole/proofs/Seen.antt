@@ -9,9 +9,9 @@ use lib.ListN.{length}
 use Rattle.laws.specs.Choice.{pick}
 use Rattle.refusals.specs.Numbers.{done, refuse}
 use Rattle.slots.specs.declared.Slot.{Slot}
-use Rattle.slots.specs.Calls.{slotRefusalOf}
-use Rattle.slots.proofs.Alike.{same-fields, same-empty}
-use Rattle.slots.proofs.AsSeen.{Same, unlooked}
+use Rattle.slot_calls.specs.Calls.{slotRefusalOf}
+use Rattle.slot_calls.proofs.Alike.{same-fields, same-empty}
+use Rattle.slot_calls.proofs.AsSeen.{Same, unlooked}
 use Rattle.plan.specs.declared.Plan.{Plan}
 use Rattle.plan.specs.Plan.{planRefusal, refusedPlan}
 use Rattle.plan.proofs.Sound.{plan-number, plan-sound}

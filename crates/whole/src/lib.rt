@@ -7,7 +7,7 @@ ghost use Rattle.keystream.specs.Stream.{keystream};
 ghost use Rattle.keystream.specs.Work.{Fits, Later};
 ghost use mathlib.Core.Bool.{not};
 ghost use Rattle.slots.specs.Slots.{keyless};
-ghost use Rattle.slots.specs.Seen.{keySlot};
+ghost use Rattle.slot_calls.specs.Seen.{keySlot};
 ghost use Rattle.ciphering.specs.Span.{schedulesFor, cipheredAs};
 ghost use Rattle.whole.specs.Whole.{flagOf, roomRefusal, openRefusalOf, wholePlan, runFrom, runOf, hasNoPiece, ciphered, planBlocks, judgedPlan, WholeMay, wholeAfter};
 use ciphering::Report;
@@ -136,7 +136,7 @@ pub fn key_slot(p: Plan, number: u64) -> u64
     ensures { λ r. ⌜ r ≡ keySlot (not (hasNoPiece p)) number ⌝ }
 {
     if has_no_piece(p) {
-        slots::NO_SLOT
+        slot_calls::NO_SLOT
     } else {
         number
     }

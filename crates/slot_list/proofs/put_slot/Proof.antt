@@ -4,7 +4,7 @@ use Rattle.walks.proofs.Walk.{_≡_, refl, sym, _∙_, ap, subst, ℕ, _<_, _^_
 use lib.Dec.{ltb, ltb→lt}
 use Rattle.laws.proofs.Cases.{pick-yes, pick-no}
 use Rattle.slots.specs.declared.Slot.{Slot}
-use Rattle.slots.specs.declared.Put.{Put}
+use Rattle.slot_calls.specs.declared.Put.{Put}
 use Rattle.slots.specs.Slots.{nil}
 use Rattle.slot_list.specs.List.{placeTo, putIn}
 use Rattle.walks.proofs.CallRules.{plain, Of, calls-fn}

@@ -3,7 +3,7 @@
 use Rattle.walks.proofs.Walk.{_≡_, refl, ℕ, _<_, _^_, List, [], _∷_, length, URA, named, w8, w64, Val, vint, SProp, ent, sep, emp, via, fst∗, id⊢, Lft, GName, Share, ftrue, flft, Memory, Routine, Heap, Calls, Loops, WpFn, Tables, Atoms, sem, Fun, givenOf, tables, tablesOf, Given, ‵, raw, _⊛_, _$_, _∵_, !, qed, by, move, drop, use0, split, join, fsplit, fjoin, suffices, frame, done, agg, whole, sub, look-in, look, init, forget, stop, hop, fld, from, load, addr, and-then, no-more, assigns, land, returns, enter, alloc1, alloc0, params1, pass1, pass0, free1, free0, FmC, fmOf, WpFn-mono, owns, Is, uint-makes, uint-lawful, uint-vals, uint-tells, u8, u64, RefT, MutSlice, Room, finally, slice-vals, mut-slice-tells, plainly, owned, nothing, Vals, onEntry, Meets, tripleOf, Contract, Triple, entered, cited, says, Stays, gave-slice, stay-dropped, walkOf, goes-gave-slice, goes-dropped, ends-at, walked, walk-meets, yes}
 use Rattle.slots.specs.declared.Slot.{Slot}
 use Rattle.slots.specs.Slots.{keyless}
-use Rattle.slots.specs.Seen.{clearPut}
+use Rattle.slot_calls.specs.Seen.{clearPut}
 use Rattle.slot_list.specs.List.{isNoTable, fieldsIn}
 use Rattle.card.specs.Table.{clearedIn}
 use Rattle.walks.proofs.CallRules.{plain, Of, calls-fn}
@@ -13,10 +13,10 @@ use Rattle.slot_list.proofs.SlotLaws.{R, FieldsRow, fields-makes, fields-typed,
 use Rattle.slot_list.proofs.SlotCalls.{IsNoTable, FieldsIn, PutSlot, lent, slice, lends-ask, lends-fields, puts-slot}
 use Rattle.card.proofs.Answers.{changed-is}
 use Rattle.card.proofs.SeenTables.{cleared-in}
-use Rattle.slots.proofs.clear_of as core
-use Rattle.slots.proofs.clear_of.Symbol as core-def
-use Rattle.slots.proofs.clear_of.Symbol.{name as #core}
-use Rattle.slots.proofs.clear_of.Met as core-thm
+use Rattle.slot_calls.proofs.clear_of as core
+use Rattle.slot_calls.proofs.clear_of.Symbol as core-def
+use Rattle.slot_calls.proofs.clear_of.Symbol.{name as #core}
+use Rattle.slot_calls.proofs.clear_of.Met as core-thm
 use Rattle.slot_list.proofs.is_no_table.Symbol as is-no-table-def
 use Rattle.slot_list.proofs.is_no_table.Symbol.{name as #is-no-table}
 use Rattle.slot_list.proofs.is_no_table.Met as is-no-table-thm

@@ -5,7 +5,7 @@ use denote.RattleType.{Denots, Valss}
 use Rattle.fields.specs.declared.Asked.{Asked}
 use Rattle.slots.specs.declared.Slot.{Slot}
 use Rattle.slots.specs.Slots.{keyless}
-use Rattle.slots.specs.Seen.{loadPut}
+use Rattle.slot_calls.specs.Seen.{loadPut}
 use Rattle.card.specs.Faces.{asking}
 use Rattle.slot_list.specs.List.{isNoTable, fieldsIn}
 use Rattle.card.specs.Table.{loadedIn}

@@ -6,8 +6,8 @@ use lib.Dec.{eqb}
 use contract.Monad.{factI}
 use Rattle.refusals.specs.Numbers.{done as accepted}
 use Rattle.slots.specs.Slots.{keyless}
-use Rattle.slots.specs.Calls.{moveRefusalOf}
-use Rattle.slots.specs.Seen.{keySlot, movePut, emptiedBy}
+use Rattle.slot_calls.specs.Calls.{moveRefusalOf}
+use Rattle.slot_calls.specs.Seen.{keySlot, movePut, emptiedBy}
 use Rattle.slot_list.specs.List.{isNoTable, fieldsIn, slotIn}
 use Rattle.card.specs.Table.{movedIn}
 use Rattle.walks.proofs.CallRules.{plain, Of, calls-fn}
@@ -19,25 +19,25 @@ use Rattle.slot_list.proofs.SlotLaws.{R, makes, typed, FieldsRow, fields-makes,
 use Rattle.slot_list.proofs.SlotCalls.{IsNoTable, FieldsIn, SlotIn, PutSlot, lent, slice, lends-ask, lends-fields, lends-slot, lends-put, puts-slot}
 use Rattle.card.proofs.Answers.{changed-is}
 use Rattle.card.proofs.SeenTables.{carried-within, moved-in}
-use Rattle.slots.proofs.emptied as emptied
-use Rattle.slots.proofs.emptied.Symbol as emptied-def
-use Rattle.slots.proofs.emptied.Symbol.{name as #emptied}
-use Rattle.slots.proofs.emptied.Met as emptied-thm
-use Rattle.slots.proofs.move_of as core
-use Rattle.slots.proofs.move_of.Symbol as core-def
-use Rattle.slots.proofs.move_of.Symbol.{name as #core}
-use Rattle.slots.proofs.move_of.Met as core-thm
+use Rattle.slot_calls.proofs.emptied as emptied
+use Rattle.slot_calls.proofs.emptied.Symbol as emptied-def
+use Rattle.slot_calls.proofs.emptied.Symbol.{name as #emptied}
+use Rattle.slot_calls.proofs.emptied.Met as emptied-thm
+use Rattle.slot_calls.proofs.move_of as core
+use Rattle.slot_calls.proofs.move_of.Symbol as core-def
+use Rattle.slot_calls.proofs.move_of.Symbol.{name as #core}
+use Rattle.slot_calls.proofs.move_of.Met as core-thm
 use Rattle.slot_list.proofs.is_no_table.Symbol as is-no-table-def
 use Rattle.slot_list.proofs.is_no_table.Symbol.{name as #is-no-table}
 use Rattle.slot_list.proofs.is_no_table.Met as is-no-table-thm
-use Rattle.slots.proofs.move_refusal as judge
-use Rattle.slots.proofs.move_refusal.Symbol as judge-def
-use Rattle.slots.proofs.move_refusal.Symbol.{name as #judge}
-use Rattle.slots.proofs.move_refusal.Met as judge-thm
-use Rattle.slots.proofs.key_slot as key
-use Rattle.slots.proofs.key_slot.Symbol as key-def
-use Rattle.slots.proofs.key_slot.Symbol.{name as #key-slot}
-use Rattle.slots.proofs.key_slot.Met as key-thm
+use Rattle.slot_calls.proofs.move_refusal as judge
+use Rattle.slot_calls.proofs.move_refusal.Symbol as judge-def
+use Rattle.slot_calls.proofs.move_refusal.Symbol.{name as #judge}
+use Rattle.slot_calls.proofs.move_refusal.Met as judge-thm
+use Rattle.slot_calls.proofs.key_slot as key
+use Rattle.slot_calls.proofs.key_slot.Symbol as key-def
+use Rattle.slot_calls.proofs.key_slot.Symbol.{name as #key-slot}
+use Rattle.slot_calls.proofs.key_slot.Met as key-thm
 use Rattle.slot_list.proofs.fields_in.Symbol as fields-in-def
 use Rattle.slot_list.proofs.fields_in.Symbol.{name as #fields-in}
 use Rattle.slot_list.proofs.fields_in.Met as fields-in-thm

@@ -10,7 +10,7 @@ use denote.Plain.{bool-lawful}
 use denote.Triple.Clauses.{Lasts}
 use Rattle.slots.specs.declared.Slot.{Slot}
 use Rattle.slots.specs.Slots.{keyless}
-use Rattle.slots.specs.Seen.{keySlot}
+use Rattle.slot_calls.specs.Seen.{keySlot}
 use Rattle.ciphering.specs.Span.{Ciphered, cipheredAs}
 use Rattle.plan.specs.declared.Plan.{Plan}
 use Rattle.whole.specs.declared.Pdu.{Pdu}

@@ -5,8 +5,8 @@ use denote.RattleType.{Denots, Valss}
 use denote.Triple.Clauses.{Lasts}
 use Rattle.slots.specs.declared.Slot.{Slot}
 use Rattle.slots.specs.Slots.{keyless}
-use Rattle.slots.specs.declared.Shown.{Shown}
-use Rattle.slots.specs.Calls.{shownOf}
+use Rattle.slot_calls.specs.declared.Shown.{Shown}
+use Rattle.slot_calls.specs.Calls.{shownOf}
 use Rattle.slot_list.specs.List.{isNoTable, fieldsIn}
 use Rattle.card.specs.Table.{shownAs, shownIn}
 use Rattle.walks.proofs.CallRules.{Of, calls-fn}

@@ -11,7 +11,7 @@ use denote.Triple.Clauses.{Lasts}
 use Rattle.refusals.specs.Numbers.{done as accepted}
 use Rattle.slots.specs.declared.Slot.{Slot}
 use Rattle.slots.specs.Slots.{keyless}
-use Rattle.slots.specs.Seen.{keySlot}
+use Rattle.slot_calls.specs.Seen.{keySlot}
 use Rattle.ciphering.specs.Span.{Ciphered, cipheredAs}
 use Rattle.traffic.specs.Traffic.{trafficRefusalOf, TrafficMay, trafficAfter}
 use Rattle.traffic.proofs.Passed.{traffic-may}
@@ -34,10 +34,10 @@ use Rattle.traffic.proofs.traffic_refusal as judge
 use Rattle.traffic.proofs.traffic_refusal.Symbol as judge-def
 use Rattle.traffic.proofs.traffic_refusal.Symbol.{name as #judge}
 use Rattle.traffic.proofs.traffic_refusal.Met as judge-thm
-use Rattle.slots.proofs.key_slot as key
-use Rattle.slots.proofs.key_slot.Symbol as key-def
-use Rattle.slots.proofs.key_slot.Symbol.{name as #key-slot}
-use Rattle.slots.proofs.key_slot.Met as key-thm
+use Rattle.slot_calls.proofs.key_slot as key
+use Rattle.slot_calls.proofs.key_slot.Symbol as key-def
+use Rattle.slot_calls.proofs.key_slot.Symbol.{name as #key-slot}
+use Rattle.slot_calls.proofs.key_slot.Met as key-thm
 use Rattle.slot_list.proofs.fields_in.Symbol as fields-in-def
 use Rattle.slot_list.proofs.fields_in.Symbol.{name as #fields-in}
 use Rattle.slot_list.proofs.fields_in.Met as fields-in-thm

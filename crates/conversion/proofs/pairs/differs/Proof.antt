@@ -2,7 +2,7 @@
 use mathlib.Core.Bool.{not}
 use mathlib.Core.Path.{_≡_, sym, ap, _∙_}
 use borrow.Author.Needs.{needs}
-use Rattle.slots.specs.Seen.{slotAs}
+use Rattle.slot_calls.specs.Seen.{slotAs}
 use Rattle.agreement.specs.Agreement.{agrees}
 use Rattle.conversion.specs.Pairs.{differs}
 use Rattle.conversion.proofs.pairs.differs.Statement.{statement}
