@@ -1,8 +1,6 @@
--- Against cards that are right from the empty table, and wrong with a key that they would not load themselves: `other-present`, and what `given` says
--- of a key that was there. Assumes nothing.
-use mathlib.Core.Bool.{true, false, true≢false}
+-- Against a card that is right from the empty table, and wrong with a key that it would not load itself: `other-present`. Assumes nothing.
 use mathlib.Core.List.{List, [], _∷_}
-use mathlib.Core.Path.{_≡_, refl, sym}
+use mathlib.Core.Path.{_≡_, refl}
 use Prim.Native.Nat.{ℕ}
 use native.Mathlib.Omega.{arith}
 use lib.ListN.{replicate}
@@ -10,16 +8,15 @@ use Rattle.laws.specs.Choice.{pick}
 use Rattle.fields.specs.Fields.{outOfService}
 use Rattle.slots.specs.declared.Slot.{Slot}
 use Rattle.slots.specs.Slots.{allZero, isEmpty, isFilled, isBad, hasBad, empty, slotAt, emptyTable, withSlot}
-use Rattle.slot_calls.specs.Calls.{moveRefusalOf, loaded, moved, cleared, shown}
+use Rattle.slot_calls.specs.Calls.{loaded, moved, cleared, shown}
 use Rattle.traffic.specs.Traffic.{trafficRefusal, trafficBlocks, trafficked}
 use Rattle.whole.specs.Whole.{wholeRefusal, wholeBlocks, wholed}
-use Rattle.two_runs.specs.Calls.{move, read, end, more, same, slot, other-present, Starts}
+use Rattle.two_runs.specs.Calls.{read, end, more, same, slot, other-present, Starts}
 use Rattle.two_runs.specs.Card.{Card, step, cardBy}
-use Rattle.two_runs.specs.Trace.{traced}
-use Rattle.two_runs.specs.Run.{next, run, stateAt}
+use Rattle.two_runs.specs.Run.{run}
 use Rattle.two_runs.specs.Demand.{Demand3}
 use Rattle.two_runs.proofs.Start.{itself}
-use Rattle.two_runs.proofs.Against.{moving, made, keyOf, keyByte, allChosen, noneChosen, forBoth}
+use Rattle.two_runs.proofs.Against.{made, keyOf, keyByte, allChosen}
 
 -- a read shows the first byte of a key of TEA6, which no load brings, as the slot's number
 abbrev pub leaksTea6 : Card
@@ -33,7 +30,8 @@ leaksTea6 =
     })
     trafficRefusal trafficBlocks trafficked wholeRefusal wholeBlocks wholed
 
-abbrev tea6 : List ℕ → List Slot
+-- a key of TEA6, for sending only, in slot 1
+abbrev pub tea6 : List ℕ → List Slot
 tea6 key = withSlot emptyTable 1 (made 7 6 1 0 28 0 0 key)
 
 two-keys : Starts allChosen (tea6 (keyOf 0)) (tea6 (keyOf 1))
@@ -45,17 +43,3 @@ unfolding step run
 leaks-tea6 demand =
     let e : _≡_ {A = ℕ} 0 1 = demand allChosen (tea6 (keyOf 0)) (tea6 (keyOf 1)) two-keys (read 1 ∷ []) _ (more (same _) end) .agree 0 .number in
     omega arith
-
--- a move makes a key of TEA6, which was there for sending only, one for both
-abbrev pub widensTea6 : Card
-widensTea6 = moving (λ s. pick (outOfService (s .fields .algorithm)) (forBoth s) s)
-
-one-key : Starts noneChosen (tea6 (keyOf 1)) (tea6 (keyOf 1))
-unfolding hasBad isBad isFilled isEmpty allZero
-one-key = record { size = refl; sound = refl; twins = itself noneChosen (tea6 (keyOf 1)) }
-
-pub widens-tea6 : Demand3 widensTea6 → ⊥
-unfolding step next stateAt traced moveRefusalOf hasBad isBad isFilled isEmpty allZero
-widens-tea6 demand =
-    let e : false ≡ true = demand noneChosen (tea6 (keyOf 1)) (tea6 (keyOf 1)) one-key (move 1 32 0 ∷ []) _ (more (same _) end) .traces 1 32 refl .usage in
-    true≢false (sym e)

@@ -1,5 +1,6 @@
 -- Against cards whose slots do not hold what the trace says: each part of `Kept`, for the last slot as for the others, and the empty case of
--- `Holds`. The moves are wrong with keys for receiving alone, of which `sends` says nothing. Assumes nothing.
+-- `Holds`. The moves are wrong with keys for receiving alone, of which `sends` says nothing. And against one that is wrong with a key alone that was
+-- there at the start: what `given` says of it. Assumes nothing.
 use mathlib.Core.Bool.{true, false, true≢false}
 use mathlib.Core.List.{[], _∷_}
 use mathlib.Core.Path.{_≡_, refl, sym, ap}
@@ -8,15 +9,18 @@ use native.Mathlib.Omega.{arith}
 use lib.Dec.{eqb}
 use lib.ListN.{getD}
 use Rattle.laws.specs.Choice.{pick}
+use Rattle.fields.specs.Fields.{outOfService}
 use Rattle.slots.specs.declared.Slot.{Slot}
 use Rattle.slots.specs.Slots.{allZero, isEmpty, isFilled, isBad, hasBad, empty, withSlot}
 use Rattle.slot_calls.specs.Calls.{loadRefusalOf, moveRefusalOf, slotRefusalOf, clearRefusalOf, clearRefusal, answered, loaded, shown}
-use Rattle.two_runs.specs.Calls.{load, move, clear, read, end, more, same}
+use Rattle.two_runs.specs.Calls.{load, move, clear, read, end, more, same, Starts}
 use Rattle.two_runs.specs.Step.{reading}
 use Rattle.two_runs.specs.Card.{Card, step}
 use Rattle.two_runs.specs.Trace.{traced}
 use Rattle.two_runs.specs.Run.{next, stateAt}
-use Rattle.two_runs.specs.Demand.{Kept, Demand3FromEmpty}
+use Rattle.two_runs.specs.Demand.{Kept, Demand3, Demand3FromEmpty}
+use Rattle.two_runs.proofs.Start.{itself}
+use Rattle.two_runs.proofs.AgainstStart.{tea6}
 use Rattle.two_runs.proofs.Against.{loading, moving, clearing, asked, slotOf, made, keyOf, noneChosen, forBoth, atPlace0}
 
 -- a move that makes something else of a key for receiving
@@ -115,4 +119,18 @@ pub reads-once : Demand3FromEmpty readsOnce → ⊥
 unfolding step next stateAt traced loadRefusalOf clearRefusalOf slotRefusalOf hasBad isBad isFilled isEmpty allZero
 reads-once demand =
     let e : false ≡ true = demand noneChosen (load 1 (asked 1) (keyOf 1) ∷ read 1 ∷ []) _ (more (same _) (more (same _) end)) .traces 2 1 refl .usage in
+    true≢false (sym e)
+
+-- a move that makes a key for sending only one for both, where no load brings it: a key of TEA6 that was there
+abbrev pub widensTea6 : Card
+widensTea6 = moving (λ s. pick (outOfService (s .fields .algorithm)) (forBoth s) s)
+
+one-key : Starts noneChosen (tea6 (keyOf 1)) (tea6 (keyOf 1))
+unfolding hasBad isBad isFilled isEmpty allZero
+one-key = record { size = refl; sound = refl; twins = itself noneChosen (tea6 (keyOf 1)) }
+
+pub widens-tea6 : Demand3 widensTea6 → ⊥
+unfolding step next stateAt traced moveRefusalOf hasBad isBad isFilled isEmpty allZero
+widens-tea6 demand =
+    let e : false ≡ true = demand noneChosen (tea6 (keyOf 1)) (tea6 (keyOf 1)) one-key (move 1 2 0 ∷ []) _ (more (same _) end) .traces 1 2 refl .usage in
     true≢false (sym e)
