@@ -12,22 +12,22 @@ use Rattle.conversion.specs.declared.Checked.{Checked}
 use Rattle.conversion.specs.Pairs.{pairCount, mostPairs, firstMisnaming, firstDiffering, leavesOut}
 
 -- a refusal, and the place of the pair that it names, counted from 1; 0 where it names none
-abbrev pub answers : ℕ → ℕ → Checked
-answers refusal place = record { refusal = refusal; place = place }
+abbrev pub checkedAs : ℕ → ℕ → Checked
+checkedAs refusal place = record { refusal = refusal; place = place }
 
 abbrev pub passes : Checked
-passes = answers done 0
+passes = checkedAs done 0
 
 -- a refusal that names a pair, where there is a place
 abbrev pub naming : ℕ → ℕ → Checked → Checked
-naming refusal place later = pick (eqb place 0) later (answers refusal place)
+naming refusal place later = pick (eqb place 0) later (checkedAs refusal place)
 
 -- 23: above 32 pairs; the first pair that names a number not there or already named on its side; an after record without a pair
 unfoldable pub namesChecked : List Slot → List Slot → List ℕ → Checked
 namesChecked before after pairs =
-    pick (ltb mostPairs (pairCount pairs)) (answers pairListBad 0)
+    pick (ltb mostPairs (pairCount pairs)) (checkedAs pairListBad 0)
     (naming pairListBad (firstMisnaming before after pairs)
-    (pick (leavesOut after pairs 32) (answers pairListBad 0)
+    (pick (leavesOut after pairs 32) (checkedAs pairListBad 0)
     passes))
 
 -- 24: the first pair that widens or differs
@@ -46,4 +46,4 @@ unfoldable pub conversionChecked : List ℕ → List ℕ → List ℕ → Checke
 conversionChecked before after pairs =
     pick (gathered before .good && gathered after .good)
     (pairsChecked (gathered before .table) (gathered after .table) pairs)
-    (answers conversionTextBad 0)
+    (checkedAs conversionTextBad 0)

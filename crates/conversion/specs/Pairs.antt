@@ -1,6 +1,6 @@
 -- A list of pairs, as it is checked against two tables of records (document 02, [11]). It is flat: before number, after number, and so on.
 -- Assumes nothing: these are definitions.
-use mathlib.Core.Bool.{Bool, false, _&&_, _||_, not}
+use mathlib.Core.Bool.{Bool, true, false, _&&_, _||_, not}
 use mathlib.Core.List.{List}
 use Prim.Native.Nat.{ℕ, zero, suc, _+_, _*_, _/_, _%_}
 use lib.Dec.{eqb}
@@ -53,11 +53,18 @@ unfoldable pub firstFrom : (ℕ → Bool) → ℕ → ℕ → ℕ
 firstFrom test i zero = 0
 firstFrom test i (suc n) = pick (test i) (i + 1) (firstFrom test (i + 1) n)
 
-unfoldable pub firstMisnaming : List Slot → List Slot → List ℕ → ℕ
-firstMisnaming before after pairs = firstFrom (misnames before after pairs) 0 (pairCount pairs)
+-- which fault of pair i is looked for: that it misnames, or that it differs
+abbrev pub faulty : Bool → List Slot → List Slot → List ℕ → ℕ → Bool
+faulty naming before after pairs i = pick naming (misnames before after pairs i) (differs before after pairs i)
 
-unfoldable pub firstDiffering : List Slot → List Slot → List ℕ → ℕ
-firstDiffering before after pairs = firstFrom (differs before after pairs) 0 (pairCount pairs)
+unfoldable pub firstFaulty : Bool → List Slot → List Slot → List ℕ → ℕ
+firstFaulty naming before after pairs = firstFrom (faulty naming before after pairs) 0 (pairCount pairs)
+
+abbrev pub firstMisnaming : List Slot → List Slot → List ℕ → ℕ
+firstMisnaming = firstFaulty true
+
+abbrev pub firstDiffering : List Slot → List Slot → List ℕ → ℕ
+firstDiffering = firstFaulty false
 
 -- the number is an after record's, and no pair names it
 unfoldable pub leftOut : List Slot → List ℕ → ℕ → Bool

@@ -2,13 +2,14 @@
 pub mod pairs;
 
 use gathering::gather;
-use pairs::first_differing;
-use pairs::first_misnaming;
+use pairs::DIFFERING;
+use pairs::MISNAMING;
+use pairs::first_faulty;
 use pairs::leaves_out;
 use pairs::pair_count;
 use slots::Slot;
 ghost use mathlib.Core.Path.{_≡_};
-ghost use Rattle.conversion.specs.Conversion.{answers, namesChecked, rightsChecked, pairsChecked, conversionChecked};
+ghost use Rattle.conversion.specs.Conversion.{checkedAs, namesChecked, rightsChecked, firstly, pairsChecked, conversionChecked};
 
 // No text has more records, and so no list more pairs.
 const MOST_PAIRS: usize = 32;
@@ -20,7 +21,7 @@ pub struct Checked {
 }
 
 fn answer(refusal: u8, place: usize) -> Checked
-    ensures { λ r. ⌜ r ≡ answers refusal place ⌝ }
+    ensures { λ r. ⌜ r ≡ checkedAs refusal place ⌝ }
 {
     Checked { refusal, place }
 }
@@ -32,7 +33,7 @@ fn check_names(before: [Slot; 32], after: [Slot; 32], pairs: &[u64]) -> Checked
     if MOST_PAIRS < pair_count(pairs) {
         return answer(refusals::PAIR_LIST, 0);
     }
-    let place = first_misnaming(before, after, pairs);
+    let place = first_faulty(MISNAMING, before, after, pairs);
     if place != 0 {
         return answer(refusals::PAIR_LIST, place);
     }
@@ -46,21 +47,29 @@ fn check_names(before: [Slot; 32], after: [Slot; 32], pairs: &[u64]) -> Checked
 fn check_rights(before: [Slot; 32], after: [Slot; 32], pairs: &[u64]) -> Checked
     ensures { λ r. ⌜ r ≡ rightsChecked before after (now (pairs .entry)) ⌝ }
 {
-    let place = first_differing(before, after, pairs);
+    let place = first_faulty(DIFFERING, before, after, pairs);
     if place != 0 {
         return answer(refusals::PAIR_DIFFERS, place);
     }
     answer(refusals::DONE, 0)
 }
 
+// The first check that refuses.
+fn firstly(first: Checked, later: Checked) -> Checked
+    ensures { λ r. ⌜ r ≡ firstly first later ⌝ }
+{
+    if first.refusal == refusals::DONE {
+        return later;
+    }
+    first
+}
+
 fn check_pairs(before: [Slot; 32], after: [Slot; 32], pairs: &[u64]) -> Checked
     ensures { λ r. ⌜ r ≡ pairsChecked before after (now (pairs .entry)) ⌝ }
 {
     let names = check_names(before, after, pairs);
-    if names.refusal != refusals::DONE {
-        return names;
-    }
-    check_rights(before, after, pairs)
+    let rights = check_rights(before, after, pairs);
+    firstly(names, rights)
 }
 
 // The whole check.
@@ -88,7 +97,7 @@ pub extern "C" fn card_converted<'a>(
     pairs: &'a [u64],
     place: &mut usize,
 ) -> u8
-    ensures { λ r. ⌜ answers r (now (place .exit)) ≡ conversionChecked (now (before .entry)) (now (after .entry)) (now (pairs .entry)) ⌝ }
+    ensures { λ r. ⌜ checkedAs r (now (place .exit)) ≡ conversionChecked (now (before .entry)) (now (after .entry)) (now (pairs .entry)) ⌝ }
 {
     let c = check(before, after, pairs);
     *place = c.place;

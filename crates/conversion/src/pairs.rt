@@ -5,11 +5,16 @@ use slots::Slot;
 use slots::is_filled;
 ghost use mathlib.Core.Path.{_≡_};
 ghost use Prim.Native.Nat.{_<_, _≤_};
-ghost use Rattle.conversion.specs.Pairs.{pairCount, numberOn, namedOn, isThere, misnamesOn, misnames, differs, firstMisnaming, firstDiffering, leftOut, leavesOut};
+ghost use Rattle.conversion.specs.Pairs.{pairCount, numberOn, namedOn, isThere, misnamesOn, misnames, differs, faulty, firstFaulty, leftOut, leavesOut};
 
 const BEFORE: usize = 0;
 
 const AFTER: usize = 1;
+
+// The faults of a pair: it names a number not there or already named on its side; it widens or differs.
+pub const MISNAMING: bool = true;
+
+pub const DIFFERING: bool = false;
 
 const SLOTS: u64 = 32;
 
@@ -84,29 +89,25 @@ fn differs(before: [Slot; 32], after: [Slot; 32], pairs: &[u64], i: usize) -> bo
     !agrees(slot_or_empty(before, from), slot_or_empty(after, to))
 }
 
-// The place of the first pair that names a number not there or already named on its side, counted from 1; 0 where there is none.
-pub fn first_misnaming(before: [Slot; 32], after: [Slot; 32], pairs: &[u64]) -> usize
-    ensures { λ r. ⌜ r ≡ firstMisnaming before after (now (pairs .entry)) ⌝ }
+// Does pair i have the fault that is looked for?
+fn is_faulty(naming: bool, before: [Slot; 32], after: [Slot; 32], pairs: &[u64], i: usize) -> bool
+    requires { ⌜ i < pairCount (now pairs) ⌝ }
+    ensures { λ r. ⌜ r ≡ faulty naming before after (now (pairs .entry)) i ⌝ }
 {
-    let count = pair_count(pairs);
-    let mut i = 0;
-    while i < count {
-        if misnames(before, after, pairs, i) {
-            return i + 1;
-        }
-        i += 1;
+    if naming {
+        return misnames(before, after, pairs, i);
     }
-    0
+    differs(before, after, pairs, i)
 }
 
-// The place of the first pair that widens or differs, counted from 1; 0 where there is none.
-pub fn first_differing(before: [Slot; 32], after: [Slot; 32], pairs: &[u64]) -> usize
-    ensures { λ r. ⌜ r ≡ firstDiffering before after (now (pairs .entry)) ⌝ }
+// The place of the first pair with the fault that is looked for, counted from 1; 0 where there is none.
+pub fn first_faulty(naming: bool, before: [Slot; 32], after: [Slot; 32], pairs: &[u64]) -> usize
+    ensures { λ r. ⌜ r ≡ firstFaulty naming before after (now (pairs .entry)) ⌝ }
 {
     let count = pair_count(pairs);
     let mut i = 0;
     while i < count {
-        if differs(before, after, pairs, i) {
+        if is_faulty(naming, before, after, pairs, i) {
             return i + 1;
         }
         i += 1;

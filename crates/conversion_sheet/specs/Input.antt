@@ -15,8 +15,8 @@ use Rattle.reading.specs.Reading.{goodTo, wrongAt, onward, answer}
 use Rattle.conversion_sheet.specs.declared.input.Named.{Named}
 use Rattle.conversion_sheet.specs.declared.input.Numbers.{Numbers}
 
-abbrev pub space : ℕ
-space = 32
+abbrev pub blank : ℕ
+blank = 32
 
 -- the bytes before the first empty line, which is an LF where a line starts; all bytes where there is none
 unfoldable pub beforeEmpty : Bool → List ℕ → ℕ
@@ -28,8 +28,8 @@ textSize s = beforeEmpty true s
 
 -- a text up to its first empty line, and what stands behind that line
 
-abbrev pub upTo : List ℕ → List ℕ
-upTo s = take (textSize s) s
+abbrev pub firstText : List ℕ → List ℕ
+firstText s = take (textSize s) s
 
 abbrev pub behind : List ℕ → List ℕ
 behind s = drop (suc (textSize s)) s
@@ -38,8 +38,8 @@ behind s = drop (suc (textSize s)) s
 unfoldable pub spacedNumber : ℕ → ℕ → ℕ → Reading
 spacedNumber b c d =
     pick (mayBegin 1 32 b)
-    (pick (eqb c space) (goodTo (b - 48) 9)
-    (pick (mayFollow 32 (b - 48) c && eqb d space) (goodTo ((b - 48) * 10 + (c - 48)) 10)
+    (pick (eqb c blank) (goodTo (b - 48) 9)
+    (pick (mayFollow 32 (b - 48) c && eqb d blank) (goodTo ((b - 48) * 10 + (c - 48)) 10)
     (wrongAt 0)))
     (wrongAt 0)
 

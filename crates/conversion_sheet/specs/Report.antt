@@ -9,9 +9,9 @@ use Rattle.writing.specs.Text.{digits, item, lineText}
 use Rattle.writing.specs.Writing.{atFront}
 use Rattle.conversion.specs.declared.Checked.{Checked}
 use Rattle.conversion.specs.Pairs.{pairCount}
-use Rattle.conversion.specs.Conversion.{answers, conversionChecked}
+use Rattle.conversion.specs.Conversion.{checkedAs, conversionChecked}
 use Rattle.conversion_sheet.specs.declared.Report.{Report}
-use Rattle.conversion_sheet.specs.Input.{upTo, behind, pairNumbers}
+use Rattle.conversion_sheet.specs.Input.{firstText, behind, pairNumbers}
 
 -- the number of pairs, or the refusal and its pair
 unfoldable pub checkedText : Checked → ℕ → List ℕ
@@ -29,8 +29,8 @@ conversionReport input =
     let after = behind input in
     let pairs = pairNumbers (behind after) in
     pick (ltb longestInput (length input))
-    (checkedText (answers conversionTextBad 0) 0)
-    (checkedText (conversionChecked (upTo input) (upTo after) pairs) (pairCount pairs))
+    (checkedText (checkedAs conversionTextBad 0) 0)
+    (checkedText (conversionChecked (firstText input) (firstText after) pairs) (pairCount pairs))
 
 -- every report fits so many bytes
 abbrev pub reportRoom : ℕ

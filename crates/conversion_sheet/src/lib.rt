@@ -13,7 +13,7 @@ ghost use mathlib.Core.Path.{_≡_};
 ghost use Prim.Native.Nat.{_≤_};
 ghost use lib.ListN.{length};
 ghost use Rattle.writing.specs.Writing.{Put};
-ghost use Rattle.conversion.specs.Conversion.{answers};
+ghost use Rattle.conversion.specs.Conversion.{checkedAs};
 ghost use Rattle.conversion_sheet.specs.Report.{checkedText, conversionReport, reportRoom, reportOf};
 
 // Every report fits so many bytes.

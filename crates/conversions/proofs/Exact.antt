@@ -12,26 +12,10 @@ use Rattle.record_reader.specs.Record.{Entry}
 use Rattle.gathering.specs.declared.Gathered.{Gathered}
 use Rattle.gathering.specs.Gathering.{gathered}
 use Rattle.conversion.specs.declared.Checked.{Checked}
-use Rattle.conversion.specs.Conversion.{answers, passes, pairsChecked, conversionChecked}
+use Rattle.conversion.specs.Conversion.{checkedAs, passes, pairsChecked, conversionChecked}
 use Rattle.conversions.specs.Conforms.{In, Known, Pair, Joins, Conforms, Converts, pairsOf}
-use Rattle.conversions.specs.Verdict.{
-  pairAt,
-  Misnames,
-  before-missing,
-  before-again,
-  after-missing,
-  after-again,
-  Differs,
-  OfPairs,
-  too-many,
-  misnamed,
-  left-out,
-  widened,
-  conforming,
-  Verdict,
-  unread,
-  checked,
-}
+use Rattle.conversions.specs.Verdict.{pairAt, Misnames, before-missing, before-again, after-missing, after-again, Differs}
+use Rattle.conversions.specs.Verdict.{OfPairs, too-many, misnamed, left-out, widened, conforming, Verdict, unread, checked}
 use Rattle.conversions.proofs.Lists.{at-in, apart-at, one-of, no-more}
 use Rattle.conversions.proofs.Tables.{numberOf, held, text-known, known-gathered, known-numbered}
 use Rattle.conversions.proofs.OfPairs.{of-pairs}
@@ -92,7 +76,7 @@ verdict before after flat = go (gathered before .good) refl (gathered after .goo
     not-good s e k = true≢false (ap (λ (g : Gathered). g .good) (sym (known-gathered s k)) ∙ e)
 
     go : (x : Bool) → gathered before .good ≡ x → (y : Bool) → gathered after .good ≡ y
-        → Verdict before after (pairsOf flat) (pick (x && y) (pairsChecked (gathered before .table) (gathered after .table) flat) (answers conversionTextBad 0))
+        → Verdict before after (pairsOf flat) (pick (x && y) (pairsChecked (gathered before .table) (gathered after .table) flat) (checkedAs conversionTextBad 0))
     go true e true f =
         let b = text-known before e in
         let a = text-known after f in
@@ -107,7 +91,7 @@ verdict before after flat = go (gathered before .good) refl (gathered after .goo
 pub accepted-converts : (before after flat : List ℕ) → conversionChecked before after flat ≡ passes → Converts before after (pairsOf flat)
 accepted-converts before after flat p = go (verdict before after flat)
   where
-    refused-not : (n place : ℕ) → 0 < n → conversionChecked before after flat ≡ answers n place → ⊥
+    refused-not : (n place : ℕ) → 0 < n → conversionChecked before after flat ≡ checkedAs n place → ⊥
     refused-not n place h e = omega (arith, h, ap (λ (c : Checked). c .refusal) (sym e ∙ p))
 
     pairs-go : (b : Known before) (a : Known after) → OfPairs (b .records) (a .records) (pairsOf flat) (conversionChecked before after flat) → Converts before after (pairsOf flat)
@@ -129,5 +113,5 @@ converts-accepted before after flat c =
     let a : Known after = record { records = c .afters; reads = c .after-reads; once = c .conforms .after-once } in
     let x = known-gathered before b in
     let y = known-gathered after a in
-    (λ i. pick (x i .good && y i .good) (pairsChecked (x i .table) (y i .table) flat) (answers conversionTextBad 0))
+    (λ i. pick (x i .good && y i .good) (pairsChecked (x i .table) (y i .table) flat) (checkedAs conversionTextBad 0))
     ∙ conforming-passes before after b a flat (c .conforms)

@@ -18,27 +18,11 @@ use Rattle.slot_calls.specs.Seen.{slotAs}
 use Rattle.record_reader.specs.Record.{Entry}
 use Rattle.agreement.specs.Agreement.{agrees}
 use Rattle.conversion.specs.declared.Checked.{Checked}
-use Rattle.conversion.specs.Pairs.{pairCount, numberOn, misnamesOn, misnames, differs, firstMisnaming, firstDiffering, leavesOut}
-use Rattle.conversion.specs.Conversion.{answers, passes, naming, firstly, namesChecked, rightsChecked, pairsChecked}
+use Rattle.conversion.specs.Pairs.{pairCount, numberOn, misnamesOn, misnames, differs, firstFaulty, firstMisnaming, firstDiffering, leavesOut}
+use Rattle.conversion.specs.Conversion.{checkedAs, passes, naming, firstly, namesChecked, rightsChecked, pairsChecked}
 use Rattle.conversions.specs.Conforms.{In, Known, Pair, Agree, Numbered, Joins, Stands, Conforms, pairsOf}
-use Rattle.conversions.specs.Verdict.{
-  pairAt,
-  Misnames,
-  before-missing,
-  before-again,
-  after-missing,
-  after-again,
-  Differs,
-  First,
-  Never,
-  LeftOut,
-  OfPairs,
-  too-many,
-  misnamed,
-  left-out,
-  widened,
-  conforming,
-}
+use Rattle.conversions.specs.Verdict.{pairAt, Misnames, before-missing, before-again, after-missing, after-again, Differs, First, Never, LeftOut}
+use Rattle.conversions.specs.Verdict.{OfPairs, too-many, misnamed, left-out, widened, conforming}
 use Rattle.conversions.proofs.Lists.{in-at, at-in, at-apart}
 use Rattle.conversions.proofs.Tables.{slotOf, held, known-numbered, known-filled, known-size, known-holds}
 use Rattle.conversions.proofs.Tests.{either-of, first-none, first-some, named-yes, named-no, Out, out-yes, out-no, pairs-length, before-is, after-is}
@@ -153,14 +137,14 @@ module _ (bs ns : List ℕ) (b : Known bs) (a : Known ns) (flat : List ℕ) wher
   -- the whole list
 
   none-misnames : firstMisnaming old new flat ≡ 0 → (i : ℕ) → i < length pairs → misnames old new flat i ≡ false
-  unfolding firstMisnaming
+  unfolding firstFaulty
   none-misnames e i h = first-none (misnames old new flat) 0 (pairCount flat) e i (omega arith) (omega (arith, h, many))
 
   never-misnames : firstMisnaming old new flat ≡ 0 → Never (Misnames before after pairs) (length pairs)
   never-misnames e i h = misnames-no i (none-misnames e i h)
 
   all-conform : firstMisnaming old new flat ≡ 0 → leavesOut new flat 32 ≡ false → firstDiffering old new flat ≡ 0 → Conforms before after pairs
-  unfolding firstDiffering
+  unfolding firstFaulty
   all-conform e l d =
       record {
         before-once = b .once;
@@ -180,7 +164,7 @@ module _ (bs ns : List ℕ) (b : Known bs) (a : Known ns) (flat : List ℕ) wher
       }
 
   first-misnames : (firstMisnaming old new flat ≡ 0 → ⊥) → (i : ℕ) × First (Misnames before after pairs) (length pairs) i × (firstMisnaming old new flat ≡ i + 1)
-  unfolding firstMisnaming
+  unfolding firstFaulty
   first-misnames ne =
       let f = first-some (misnames old new flat) 0 (pairCount flat) ne in (
         f .place,
@@ -194,7 +178,7 @@ module _ (bs ns : List ℕ) (b : Known bs) (a : Known ns) (flat : List ℕ) wher
 
   first-differs : firstMisnaming old new flat ≡ 0 → (firstDiffering old new flat ≡ 0 → ⊥)
       → (i : ℕ) × First (Differs before after pairs) (length pairs) i × (firstDiffering old new flat ≡ i + 1)
-  unfolding firstDiffering
+  unfolding firstFaulty
   first-differs e ne =
       let f = first-some (differs old new flat) 0 (pairCount flat) ne in
       let n = names (f .place) (none-misnames e (f .place) (omega (arith, f .high, many))) in (
@@ -213,29 +197,29 @@ module _ (bs ns : List ℕ) (b : Known bs) (a : Known ns) (flat : List ℕ) wher
   Answer = OfPairs before after pairs
 
   after-names : length pairs ≤ 32 → firstMisnaming old new flat ≡ 0 → (t : Bool) → leavesOut new flat 32 ≡ t
-      → Answer (firstly (pick t (answers pairListBad 0) passes) (rightsChecked old new flat))
+      → Answer (firstly (pick t (checkedAs pairListBad 0) passes) (rightsChecked old new flat))
   unfolding rightsChecked
   after-names few e true l = left-out few (never-misnames e) (out-left (out-yes new flat 32 l)) refl
   after-names few e false l = go (eqb (firstDiffering old new flat) 0) refl
     where
-      go : (t : Bool) → eqb (firstDiffering old new flat) 0 ≡ t → Answer (pick t passes (answers pairDiffers (firstDiffering old new flat)))
+      go : (t : Bool) → eqb (firstDiffering old new flat) 0 ≡ t → Answer (pick t passes (checkedAs pairDiffers (firstDiffering old new flat)))
       go true d = conforming (all-conform e l (eqb-true _ 0 d)) refl
       go false d =
           let f = first-differs e (eqb-false _ 0 d) in
-          widened few (never-misnames e) (λ o. o .alone (each-stands l (o .entry) (o .stands))) (f .0) (f .1) (ap (answers pairDiffers) (f .2))
+          widened few (never-misnames e) (λ o. o .alone (each-stands l (o .entry) (o .stands))) (f .0) (f .1) (ap (checkedAs pairDiffers) (f .2))
 
   pub of-pairs : Answer (pairsChecked old new flat)
   unfolding pairsChecked namesChecked
   of-pairs = go (ltb 32 (pairCount flat)) refl
     where
       named : (t : Bool) → eqb (firstMisnaming old new flat) 0 ≡ t → length pairs ≤ 32
-          → Answer (firstly (pick t (pick (leavesOut new flat 32) (answers pairListBad 0) passes) (answers pairListBad (firstMisnaming old new flat))) (rightsChecked old new flat))
+          → Answer (firstly (pick t (pick (leavesOut new flat 32) (checkedAs pairListBad 0) passes) (checkedAs pairListBad (firstMisnaming old new flat))) (rightsChecked old new flat))
       named true e few = after-names few (eqb-true _ 0 e) (leavesOut new flat 32) refl
       named false e few =
           let f = first-misnames (eqb-false _ 0 e) in
-          misnamed few (f .0) (f .1) (ap (answers pairListBad) (f .2))
+          misnamed few (f .0) (f .1) (ap (checkedAs pairListBad) (f .2))
 
       go : (t : Bool) → ltb 32 (pairCount flat) ≡ t
-          → Answer (firstly (pick t (answers pairListBad 0) (naming pairListBad (firstMisnaming old new flat) (pick (leavesOut new flat 32) (answers pairListBad 0) passes))) (rightsChecked old new flat))
+          → Answer (firstly (pick t (checkedAs pairListBad 0) (naming pairListBad (firstMisnaming old new flat) (pick (leavesOut new flat 32) (checkedAs pairListBad 0) passes))) (rightsChecked old new flat))
       go true e = too-many (omega (arith, ltb-true 32 (pairCount flat) e, many)) refl
       go false e = named (eqb (firstMisnaming old new flat) 0) refl (omega (arith, ltb-false 32 (pairCount flat) e, many))

@@ -7,7 +7,7 @@ use lib.ListN.{length, getD}
 use Rattle.refusals.specs.Numbers.{conversionTextBad, pairListBad, pairDiffers}
 use Rattle.record_reader.specs.Record.{Entry}
 use Rattle.conversion.specs.declared.Checked.{Checked}
-use Rattle.conversion.specs.Conversion.{answers, passes}
+use Rattle.conversion.specs.Conversion.{checkedAs, passes}
 use Rattle.conversions.specs.Conforms.{In, Known, Pair, Agree, Numbered, Stands, Conforms}
 
 -- past the end only ever a default
@@ -44,14 +44,14 @@ pub record LeftOut (after : List Entry) (pairs : List Pair) : Type 0 where
 
 -- of two texts that read
 pub data OfPairs (before after : List Entry) (pairs : List Pair) (c : Checked) : Type 0 where
-  too-many : 32 < length pairs → c ≡ answers pairListBad 0 → OfPairs before after pairs c
-  misnamed : length pairs ≤ 32 → (i : ℕ) → First (Misnames before after pairs) (length pairs) i → c ≡ answers pairListBad (i + 1) → OfPairs before after pairs c
-  left-out : length pairs ≤ 32 → Never (Misnames before after pairs) (length pairs) → LeftOut after pairs → c ≡ answers pairListBad 0 → OfPairs before after pairs c
+  too-many : 32 < length pairs → c ≡ checkedAs pairListBad 0 → OfPairs before after pairs c
+  misnamed : length pairs ≤ 32 → (i : ℕ) → First (Misnames before after pairs) (length pairs) i → c ≡ checkedAs pairListBad (i + 1) → OfPairs before after pairs c
+  left-out : length pairs ≤ 32 → Never (Misnames before after pairs) (length pairs) → LeftOut after pairs → c ≡ checkedAs pairListBad 0 → OfPairs before after pairs c
   widened : length pairs ≤ 32 → Never (Misnames before after pairs) (length pairs) → (LeftOut after pairs → ⊥)
-      → (i : ℕ) → First (Differs before after pairs) (length pairs) i → c ≡ answers pairDiffers (i + 1) → OfPairs before after pairs c
+      → (i : ℕ) → First (Differs before after pairs) (length pairs) i → c ≡ checkedAs pairDiffers (i + 1) → OfPairs before after pairs c
   conforming : Conforms before after pairs → c ≡ passes → OfPairs before after pairs c
 
 -- of any two texts
 pub data Verdict (before after : List ℕ) (pairs : List Pair) (c : Checked) : Type 0 where
-  unread : (Known before × Known after → ⊥) → c ≡ answers conversionTextBad 0 → Verdict before after pairs c
+  unread : (Known before × Known after → ⊥) → c ≡ checkedAs conversionTextBad 0 → Verdict before after pairs c
   checked : (b : Known before) (a : Known after) → OfPairs (b .records) (a .records) pairs c → Verdict before after pairs c

@@ -6,19 +6,19 @@ use borrow.Author.Needs.{needs}
 use borrow.Author.Tests.{lt-ltb, le-ltb, eq-eqb, ne-eqb}
 use lib.Dec.{eqb, ltb}
 use Rattle.conversion.specs.Pairs.{pairCount, firstMisnaming}
-use Rattle.conversion.specs.Conversion.{answers, namesChecked}
+use Rattle.conversion.specs.Conversion.{checkedAs, namesChecked}
 use Rattle.conversion.proofs.check_names.Statement.{statement}
 use Rattle.conversion.proofs.check_names.Tie as tie
 
 -- 32 pairs, and no more
-few : (c : tie.After-first-misnaming) → ltb 32 (pairCount (c .before .before .before .before .args .pairs .now)) ≡ false
+few : (c : tie.After-first-faulty) → ltb 32 (pairCount (c .before .before .before .before .args .pairs .now)) ≡ false
 few c = le-ltb 32 (pairCount (c .before .before .before .before .args .pairs .now)) (omega (arith, c .before .if1 .left, c .before .before .pair-count .ensures))
 
 -- and none misnames
 none : (c : tie.After-leaves-out)
     → let args = c .before .before .before .before .before .before .args in
     eqb (firstMisnaming (args .before) (args .after) (args .pairs .now)) 0 ≡ true
-none c = eq-eqb _ 0 (sym (c .before .before .first-misnaming .ensures) ∙ c .before .if2 .left)
+none c = eq-eqb _ 0 (sym (c .before .before .first-faulty .ensures) ∙ c .before .if2 .left)
 
 returns : tie.Need-returns
 unfolding namesChecked
@@ -30,8 +30,8 @@ returns-2 : tie.Need-returns-2
 unfolding namesChecked
 returns-2 c =
     let first = c .before .before in
-    let place = first .first-misnaming .ensures in
-    rw (few first, ne-eqb _ 0 (λ z. c .before .if2 .taken (place ∙ z))) (c .answer2 .ensures ∙ ap (answers 23) place)
+    let place = first .first-faulty .ensures in
+    rw (few first, ne-eqb _ 0 (λ z. c .before .if2 .taken (place ∙ z))) (c .answer2 .ensures ∙ ap (checkedAs 23) place)
 
 returns-3 : tie.Need-returns-3
 unfolding namesChecked

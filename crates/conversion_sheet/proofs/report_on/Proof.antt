@@ -10,7 +10,7 @@ use lib.Seq.{take-all, take-at, length-take-le}
 use Rattle.conversion.specs.Pairs.{pairCount}
 use Rattle.conversion.specs.Conversion.{conversionChecked}
 use Rattle.conversion_sheet.specs.declared.input.Numbers.{Numbers}
-use Rattle.conversion_sheet.specs.Input.{textSize, upTo, behind, pairNumbers, pairsRead}
+use Rattle.conversion_sheet.specs.Input.{textSize, firstText, behind, pairNumbers, pairsRead}
 use Rattle.conversion_sheet.specs.Report.{conversionReport, reportOf, checkedText}
 use Rattle.conversion_sheet.proofs.Texts.{front-within}
 use Rattle.conversion_sheet.proofs.report_on.Statement.{statement}

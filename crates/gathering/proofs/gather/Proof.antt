@@ -29,6 +29,9 @@ loop-holds : tie.Need-loop-holds Inv-loop μ-loop
 unfolding gathered
 loop-holds c = (search needs, ap (λ t. gatherOn t (c .before .before .args .text .now)) (sym (c .empty-table .ensures)))
 
+part-starts : tie.Need-part-read-record-start Inv-loop μ-loop
+part-starts c = search needs
+
 -- a record is read
 module _ (c : tie.After-read-record Inv-loop μ-loop) where
   abbrev here : tie.At-loop Inv-loop μ-loop
@@ -110,7 +113,7 @@ gather-spec =
     (λ c κs. search needs)
     loop-holds
     (λ c. search needs)
-    (λ c. search needs)
+    part-starts
     (λ c. search needs)
     (λ c κs. search needs)
     enter-requires
