@@ -4,7 +4,7 @@ use mathlib.Core.Bool.{Bool, true, false, _&&_, _||_}
 use mathlib.Core.List.{List, [], _∷_}
 use Prim.Native.Nat.{ℕ, _+_, _-_}
 use lib.Dec.{eqb, ltb}
-use lib.ListN.{length, take, drop}
+use lib.ListN.{length, take}
 use Rattle.laws.specs.Choice.{pick}
 use Rattle.fields.specs.Fields.{between}
 use Rattle.line_parts.specs.Line.{cr, endsWith, leading, valueIn, isSpaced}
@@ -15,6 +15,10 @@ use Rattle.line_faults.specs.declared.Fault.the-variants.{Crlf, Hex, Zer
 -- how many zeros a number begins with that are dropped: its last digit stays. 48 is the digit 0
 unfoldable pub zerosIn : List ℕ → ℕ
 zerosIn value = leading 48 (take (length value - 1) value)
+
+-- how many zeros are dropped from the value under the name of number k: only a number loses any
+unfoldable pub zerosDropped : ℕ → List ℕ → ℕ
+zerosDropped k value = pick (isDecimal k) (zerosIn value) 0
 
 -- A to F
 unfoldable pub isUpperHex : ℕ → Bool
@@ -28,17 +32,9 @@ anyUpperHex (b ∷ s) = isUpperHex b || anyUpperHex s
 unfoldable pub lowerHex : ℕ → ℕ
 lowerHex b = pick (isUpperHex b) (b + 32) b
 
-unfoldable pub lowered : List ℕ → List ℕ
-lowered [] = []
-lowered (b ∷ s) = lowerHex b ∷ lowered s
-
--- the value under the name of number k, mended: the key's digits in lower case, a number without leading zeros, a word as it is
-unfoldable pub mendedValue : ℕ → List ℕ → List ℕ
-mendedValue k value = pick (eqb k keyName) (lowered value) (pick (isDecimal k) (drop (zerosIn value) value) value)
-
 -- a line has a fault
 unfoldable pub hasFault : Fault → List ℕ → Bool
 hasFault Crlf line = endsWith cr line
 hasFault Hex line = eqb (numberIn line) keyName && anyUpperHex (valueIn line)
-hasFault Zeros line = isDecimal (numberIn line) && ltb 0 (zerosIn (valueIn line))
+hasFault Zeros line = ltb 0 (zerosDropped (numberIn line) (valueIn line))
 hasFault Spaces line = isSpaced line

@@ -63,5 +63,4 @@ isDecimal k = not (eqb k algName) && (not (eqb k useName) && not (eqb k keyName)
 
 -- a form has a name: form 2 all ten, form 1 neither `form` nor the network codes
 unfoldable pub hasName : Bool → ℕ → Bool
-hasName true k = ltb k nameCount
-hasName false k = not (eqb k formName) && (not (eqb k mccName) && (not (eqb k mncName) && ltb k nameCount))
+hasName two k = pick (eqb k formName) two (pick (eqb k mccName) two (pick (eqb k mncName) two (ltb k nameCount)))

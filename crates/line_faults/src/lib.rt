@@ -12,8 +12,8 @@ ghost use mathlib.Core.Bool.{_&&_};
 ghost use mathlib.Core.Path.{_≡_};
 ghost use lib.Dec.{eqb, ltb};
 ghost use Rattle.line_parts.specs.Line.{valueIn};
-ghost use Rattle.line_faults.specs.Names.{keyName, numberIn, isDecimal};
-ghost use Rattle.line_faults.specs.Faults.{zerosIn, isUpperHex, anyUpperHex, lowerHex, hasFault};
+ghost use Rattle.line_faults.specs.Names.{keyName, numberIn};
+ghost use Rattle.line_faults.specs.Faults.{zerosIn, zerosDropped, isUpperHex, anyUpperHex, lowerHex, hasFault};
 
 const CR: u8 = 13;
 
@@ -26,7 +26,7 @@ pub enum Fault {
 }
 
 // How many zeros a number begins with that are dropped: its last digit stays.
-pub fn zeros_in(value: &[u8]) -> usize
+fn zeros_in(value: &[u8]) -> usize
     ensures { λ r. ⌜ r ≡ zerosIn (now (value .entry)) ⌝ }
 {
     let n = value.len();
@@ -34,6 +34,16 @@ pub fn zeros_in(value: &[u8]) -> usize
         return 0;
     }
     leading(front(value, n - 1), b'0')
+}
+
+// How many zeros are dropped from the value under a name: only a number loses any.
+pub fn zeros_dropped(k: usize, value: &[u8]) -> usize
+    ensures { λ r. ⌜ r ≡ zerosDropped k (now (value .entry)) ⌝ }
+{
+    if is_decimal(k) {
+        return zeros_in(value);
+    }
+    0
 }
 
 // A to F?
@@ -79,14 +89,12 @@ fn has_upper_hex(line: &[u8]) -> bool
     any_upper_hex(value_in(line))
 }
 
-// The line of a number with zeros that are dropped?
+// A line with zeros that are dropped?
 fn has_zeros(line: &[u8]) -> bool
-    ensures { λ r. ⌜ r ≡ isDecimal (numberIn (now (line .entry))) && ltb 0 (zerosIn (valueIn (now (line .entry)))) ⌝ }
+    ensures { λ r. ⌜ r ≡ ltb 0 (zerosDropped (numberIn (now (line .entry))) (valueIn (now (line .entry)))) ⌝ }
 {
-    if !is_decimal(number_in(line)) {
-        return false;
-    }
-    0 < zeros_in(value_in(line))
+    let value = value_in(line);
+    0 < zeros_dropped(number_in(line), value)
 }
 
 // Does a line have a fault?

@@ -10,15 +10,9 @@ ghost use Rattle.line_faults.specs.Names.{nameText, sameText, nameNumber
 // How many names there are. This is also the number of every other name.
 pub const NAMES: usize = 10;
 
-const FORM: usize = 0;
-
 const ALG: usize = 3;
 
 const USE: usize = 4;
-
-const MCC: usize = 7;
-
-const MNC: usize = 8;
 
 pub const KEY: usize = 9;
 
@@ -99,21 +93,14 @@ pub fn is_decimal(k: usize) -> bool
     k != KEY
 }
 
-// Does a form have a name?
+// Does a form have a name? `form` and the network codes only form 2 has.
 pub fn has_name(two: bool, k: usize) -> bool
     ensures { λ r. ⌜ r ≡ hasName two k ⌝ }
 {
-    if two {
-        return k < NAMES;
+    match k {
+        0 => two,
+        7 => two,
+        8 => two,
+        _ => k < NAMES,
     }
-    if k == FORM {
-        return false;
-    }
-    if k == MCC {
-        return false;
-    }
-    if k == MNC {
-        return false;
-    }
-    k < NAMES
 }

@@ -1,18 +1,20 @@
 -- The mended value of a line by its name, and the lines one after the other. Assumes nothing.
 use mathlib.Core.Path.{_≡_, refl, sym, ap, _∙_}
-use mathlib.Core.Bool.{Bool, true, false}
+use mathlib.Core.Bool.{Bool, true, false, not, _&&_}
 use mathlib.Core.List.{List, [], _∷_, _++_, append-assoc}
 use Prim.Native.Nat.{ℕ, zero, suc, _+_, _-_, _<_, _≤_}
 use native.Mathlib.Omega.{arith}
+use lib.Dec.{eqb}
 use lib.ListN.{length, getD, take, drop, length-take}
 use borrow.Author.Tests.{eq-eqb, ne-eqb}
 use Rattle.writing.specs.Text.{ascii, lf}
-use Rattle.line_parts.specs.Line.{equals}
+use Rattle.laws.specs.Choice.{pick}
+use Rattle.line_parts.specs.Line.{equals, leading}
 use Rattle.line_parts.proofs.Counts.{leading-within}
-use Rattle.line_faults.specs.Names.{formName, keyName, nameCount, nameText, isDecimal, hasName}
-use Rattle.line_faults.specs.Faults.{zerosIn, lowerHex, lowered, mendedValue}
+use Rattle.line_faults.specs.Names.{formName, algName, useName, keyName, nameCount, nameText, isDecimal, hasName}
+use Rattle.line_faults.specs.Faults.{zerosIn, zerosDropped, lowerHex}
 use Rattle.sheet_faults.specs.Sheet.{isFormTwo, valueNamed}
-use Rattle.mended_text.specs.Text.{gained, valueMended, lineMended, linesMended, textMended}
+use Rattle.mended_text.specs.Text.{lowered, mendedValue, gained, valueMended, lineMended, linesMended, textMended}
 
 pub length-lowered : (s : List ℕ) → length (lowered s) ≡ length s
 unfolding lowered
@@ -25,22 +27,38 @@ lowered-at [] i h = absurd (omega arith)
 lowered-at (b ∷ s) zero h = refl
 lowered-at (b ∷ s) (suc i) h = lowered-at s i (omega arith)
 
-pub zeros-within : (value : List ℕ) → zerosIn value ≤ length value
-unfolding zerosIn
-zeros-within value = omega (arith, leading-within 48 (take (length value - 1) value), length-take (length value - 1) value)
+pub zeros-within : (k : ℕ) (value : List ℕ) → zerosDropped k value ≤ length value
+unfolding zerosDropped zerosIn
+zeros-within k value = go (isDecimal k)
+  where
+    go : (t : Bool) → pick t (leading 48 (take (length value - 1) value)) 0 ≤ length value
+    go true = omega (arith, leading-within 48 (take (length value - 1) value), length-take (length value - 1) value)
+    go false = omega arith
 
 module _ (k : ℕ) (value : List ℕ) where
-  pub mended-key : k ≡ keyName → mendedValue k value ≡ lowered value
+  pub mended-key : k ≡ keyName → mendedValue k value ≡ lowered (drop (zerosDropped k value) value)
   unfolding mendedValue
   mended-key e = rw (eq-eqb k keyName e)
 
-  pub mended-number : (k ≡ keyName → ⊥) → isDecimal k ≡ true → mendedValue k value ≡ drop (zerosIn value) value
+  pub mended-other : (k ≡ keyName → ⊥) → mendedValue k value ≡ drop (zerosDropped k value) value
   unfolding mendedValue
-  mended-number n e = rw (ne-eqb k keyName n, e)
+  mended-other n = rw (ne-eqb k keyName n)
 
-  pub mended-word : (k ≡ keyName → ⊥) → isDecimal k ≡ false → mendedValue k value ≡ value
-  unfolding mendedValue
-  mended-word n e = rw (ne-eqb k keyName n, e)
+-- so the key loses no zero, and a word nothing
+pub mended-cases : (k : ℕ) (value : List ℕ)
+    → mendedValue k value ≡ pick (eqb k keyName) (lowered value) (pick (isDecimal k) (drop (zerosIn value) value) value)
+unfolding mendedValue zerosDropped isDecimal
+mended-cases k value = go (eqb k algName) (eqb k useName) (eqb k keyName)
+  where
+    go : (x y z : Bool)
+        → pick z (lowered (drop (pick (not x && (not y && not z)) (zerosIn value) 0) value)) (drop (pick (not x && (not y && not z)) (zerosIn value) 0) value)
+        ≡ pick z (lowered value) (pick (not x && (not y && not z)) (drop (zerosIn value) value) value)
+    go true y true = refl
+    go true y false = refl
+    go false true true = refl
+    go false true false = refl
+    go false false true = refl
+    go false false false = refl
 
 pub gained-form : (k : ℕ) → k ≡ formName → gained k ≡ ascii "2"
 unfolding gained

@@ -1,46 +1,71 @@
--- How long the mended text is: ten lines, each at most nine bytes longer than the sheet. Assumes nothing.
+-- How long the mended text is: at most a hundred bytes longer than the sheet. Assumes nothing.
+use mathlib.Core.Path.{_≡_, refl}
 use mathlib.Core.Bool.{Bool, true, false}
 use mathlib.Core.List.{List, [], _∷_, _++_}
 use Prim.Native.Nat.{ℕ, zero, suc, _+_, _-_, _*_, _<_, _≤_}
 use native.Mathlib.Omega.{arith}
 use lib.Dec.{eqb}
 use lib.ListN.{length, take, drop, length-append, length-take, length-drop}
+use borrow.Author.Tests.{ne-eqb, eqb-true}
 use Rattle.laws.specs.Choice.{pick}
 use Rattle.writing.specs.Text.{ascii, lf}
 use Rattle.lines.specs.Line.{space, indexOf}
 use Rattle.line_parts.specs.Line.{cr, equals, endsWith, leading, bare, afterEquals, valueIn}
-use Rattle.line_faults.specs.Names.{formName, keyName, nameCount, nameText, numberIn, isDecimal, hasName}
-use Rattle.line_faults.specs.Faults.{zerosIn, lowered, mendedValue}
+use Rattle.line_faults.specs.Names.{formName, keyName, nameCount, nameText, numberIn, hasName}
+use Rattle.line_faults.specs.Faults.{zerosDropped}
 use Rattle.sheet_faults.specs.Sheet.{ontoFirst, linesOf, isFormTwo, valueNamed}
-use Rattle.mended_text.specs.Text.{gained, valueMended, lineMended, linesMended, textMended}
+use Rattle.mended_text.specs.Text.{lowered, mendedValue, gained, valueMended, lineMended, linesMended, textMended}
 use Rattle.mended_text.proofs.Laws.{length-lowered}
 
--- no line is longer than n
-abbrev Within : ℕ → List (List ℕ) → Type 0
-Within n [] = Unit
-Within n (line ∷ lines) = (length line ≤ n) × Within n lines
+-- f i, f (i + 1), ..: the sum of n of them
+abbrev total : (ℕ → ℕ) → ℕ → ℕ → ℕ
+total f i zero = 0
+total f i (suc n) = f i + total f (i + 1) n
+
+-- the bytes of all lines
+abbrev allBytes : List (List ℕ) → ℕ
+allBytes [] = 0
+allBytes (line ∷ lines) = length line + allBytes lines
 
 -- neither of two texts is longer
 either-short : (n : ℕ) (t : Bool) (x y : List ℕ) → length x ≤ n → length y ≤ n → length (pick t x y) ≤ n
 either-short n true x y h k = h
 either-short n false x y h k = k
 
-longer : (n : ℕ) (lines : List (List ℕ)) → Within n lines → Within (suc n) lines
-longer n [] w = tt
-longer n (line ∷ lines) w = (omega arith, longer n lines (w .1))
+onto-bytes : (b : ℕ) (lines : List (List ℕ)) → allBytes (ontoFirst b lines) ≡ suc (allBytes lines)
+onto-bytes b [] = refl
+onto-bytes b (line ∷ lines) = omega arith
 
-onto-within : (n b : ℕ) (lines : List (List ℕ)) → Within n lines → Within (suc n) (ontoFirst b lines)
-onto-within n b [] w = (omega arith, tt)
-onto-within n b (line ∷ lines) w = (omega arith, longer n lines (w .1))
-
-lines-within : (s : List ℕ) → Within (length s) (linesOf s)
+-- lines have no more bytes than their text
+lines-bytes : (s : List ℕ) → allBytes (linesOf s) ≤ length s
 unfolding linesOf
-lines-within [] = tt
-lines-within (b ∷ s) = go (eqb b lf) (lines-within s)
+lines-bytes [] = omega arith
+lines-bytes (b ∷ s) = go (eqb b lf) (lines-bytes s)
   where
-    go : (t : Bool) → Within (length s) (linesOf s) → Within (suc (length s)) (pick t ([] ∷ linesOf s) (ontoFirst b (linesOf s)))
-    go true w = (omega arith, longer (length s) (linesOf s) w)
-    go false w = onto-within (length s) b (linesOf s) w
+    go : (t : Bool) → allBytes (linesOf s) ≤ length s → allBytes (pick t ([] ∷ linesOf s) (ontoFirst b (linesOf s))) ≤ suc (length s)
+    go true h = omega arith
+    go false h = omega (arith, onto-bytes b (linesOf s))
+
+-- texts of which one, at j, is another: their bytes are at most its own and those of the rest
+module _ (g : ℕ → List ℕ) (x : List ℕ) (j : ℕ) where
+  abbrev instead : ℕ → ℕ
+  instead k = length (pick (eqb j k) x (g k))
+
+  passed : (i n : ℕ) → j < i → total instead i n ≡ total (λ k. length (g k)) i n
+  passed i zero h = refl
+  passed i (suc n) h =
+      let e : length (pick (eqb j i) x (g i)) ≡ length (g i) = rw (ne-eqb j i (λ z. let y : j ≡ i = z in omega arith)) in
+      omega (arith, e, passed (i + 1) n (omega arith))
+
+  one-instead : (i n : ℕ) → total instead i n ≤ length x + total (λ k. length (g k)) i n
+  one-instead i zero = omega arith
+  one-instead i (suc n) = go (eqb j i) refl (one-instead (i + 1) n) (passed (i + 1) n)
+    where
+      go : (t : Bool) → eqb j i ≡ t → total instead (i + 1) n ≤ length x + total (λ k. length (g k)) (i + 1) n
+          → (j < i + 1 → total instead (i + 1) n ≡ total (λ k. length (g k)) (i + 1) n)
+          → length (pick t x (g i)) + total instead (i + 1) n ≤ length x + (length (g i) + total (λ k. length (g k)) (i + 1) n)
+      go true e r q = omega (arith, q (omega (arith, eqb-true j i e)))
+      go false e r q = omega arith
 
 bare-short : (line : List ℕ) → length (bare line) ≤ length line
 unfolding bare
@@ -53,17 +78,23 @@ value-short line =
     let after = drop (suc (indexOf equals (bare line))) (bare line) in
     omega (arith, length-drop (leading space after) after, length-drop (suc (indexOf equals (bare line))) (bare line), bare-short line)
 
-named-within : (k n : ℕ) (lines : List (List ℕ)) → Within n lines → length (valueNamed k lines) ≤ n
+nothing : (i n : ℕ) → total (λ k. 0) i n ≡ 0
+nothing i zero = refl
+nothing i (suc n) = omega (arith, nothing (i + 1) n)
+
+-- the values under the names have no more bytes than the lines
+values-bytes : (i n : ℕ) (lines : List (List ℕ)) → total (λ k. length (valueNamed k lines)) i n ≤ allBytes lines
 unfolding valueNamed
-named-within k n [] w = omega arith
-named-within k n (line ∷ lines) w =
-    either-short n (eqb (numberIn line) k) (valueIn line) (valueNamed k lines) (omega (arith, w .0, value-short line)) (named-within k n lines (w .1))
+values-bytes i n [] = omega (arith, nothing i n)
+values-bytes i n (line ∷ lines) =
+    omega (arith, one-instead (λ k. valueNamed k lines) (valueIn line) (numberIn line) i n, values-bytes i n lines, value-short line)
 
 mended-short : (k : ℕ) (value : List ℕ) → length (mendedValue k value) ≤ length value
 unfolding mendedValue
 mended-short k value =
-    either-short (length value) (eqb k keyName) (lowered value) (pick (isDecimal k) (drop (zerosIn value) value) value) (omega (arith, length-lowered value))
-    (either-short (length value) (isDecimal k) (drop (zerosIn value) value) value (omega (arith, length-drop (zerosIn value) value)) (omega arith))
+    let digits = drop (zerosDropped k value) value in
+    let short : length digits ≤ length value = omega (arith, length-drop (zerosDropped k value) value) in
+    either-short (length value) (eqb k keyName) (lowered digits) digits (omega (arith, length-lowered digits)) short
 
 gained-short : (k : ℕ) → length (gained k) ≤ 1
 unfolding gained
@@ -83,29 +114,33 @@ name-short (suc (suc (suc (suc (suc (suc (suc (suc zero)))))))) = omega arith
 name-short (suc (suc (suc (suc (suc (suc (suc (suc (suc zero))))))))) = omega arith
 name-short (suc (suc (suc (suc (suc (suc (suc (suc (suc (suc k)))))))))) = omega arith
 
-module _ (s : List ℕ) (n : ℕ) (some : 1 ≤ n) (h : length s ≤ n) (two : Bool) where
-  value-most : (k : ℕ) → length (valueMended two (linesOf s) k) ≤ n
+module _ (two : Bool) (lines : List (List ℕ)) where
+  value-most : (k : ℕ) → length (valueMended two lines k) ≤ 1 + length (valueNamed k lines)
   unfolding valueMended
   value-most k =
-      let given = valueNamed k (linesOf s) in
-      either-short n (hasName two k) (mendedValue k given) (gained k)
-      (omega (arith, mended-short k given, named-within k (length s) (linesOf s) (lines-within s)))
-      (omega (arith, gained-short k))
+      let given = valueNamed k lines in
+      either-short (1 + length given) (hasName two k) (mendedValue k given) (gained k) (omega (arith, mended-short k given)) (omega (arith, gained-short k))
 
-  line-most : (k : ℕ) → length (lineMended two (linesOf s) k) ≤ n + 9
+  line-most : (k : ℕ) → length (lineMended two lines k) ≤ 10 + length (valueNamed k lines)
   unfolding lineMended
   line-most k =
-      let value = valueMended two (linesOf s) k in
+      let value = valueMended two lines k in
       omega (arith, length-append (nameText k) (equals ∷ (value ++ (lf ∷ []))), length-append value (lf ∷ []), name-short k, value-most k)
 
-  lines-most : (k m : ℕ) → length (linesMended two (linesOf s) k m) ≤ m * (n + 9)
+  lines-most : (k n : ℕ) → length (linesMended two lines k n) ≤ n * 10 + total (λ k. length (valueNamed k lines)) k n
   unfolding linesMended
   lines-most k zero = omega arith
-  lines-most k (suc m) =
-      let rest = lines-most (k + 1) m in
-      omega (arith, length-append (lineMended two (linesOf s) k) (linesMended two (linesOf s) (k + 1) m), line-most k)
+  lines-most k (suc n) =
+      let rest = lines-most (k + 1) n in
+      omega (arith, length-append (lineMended two lines k) (linesMended two lines (k + 1) n), line-most k)
 
--- of a sheet that is not too long
-pub text-most : (s : List ℕ) → length s ≤ 4096 → length (textMended (linesOf s)) ≤ 41050
+-- ten names with `=`, LF or a gained digit each take at most a hundred bytes beside the sheet's own
+pub text-most : (s : List ℕ) → length (textMended (linesOf s)) ≤ 100 + length s
 unfolding textMended
-text-most s h = lines-most s 4096 (omega arith) h (isFormTwo (linesOf s)) 0 nameCount
+text-most s =
+    omega (
+      arith,
+      lines-most (isFormTwo (linesOf s)) (linesOf s) 0 nameCount,
+      values-bytes 0 nameCount (linesOf s),
+      lines-bytes s,
+    )

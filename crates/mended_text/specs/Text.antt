@@ -3,12 +3,24 @@ use mathlib.Core.Bool.{Bool}
 use mathlib.Core.List.{List, [], _∷_, _++_}
 use Prim.Native.Nat.{ℕ, zero, suc, _+_}
 use lib.Dec.{eqb}
+use lib.ListN.{drop}
 use Rattle.laws.specs.Choice.{pick}
 use Rattle.writing.specs.Text.{ascii, lf}
 use Rattle.line_parts.specs.Line.{equals}
-use Rattle.line_faults.specs.Names.{formName, nameCount, nameText, hasName}
-use Rattle.line_faults.specs.Faults.{mendedValue}
+use Rattle.line_faults.specs.Names.{formName, keyName, nameCount, nameText, hasName}
+use Rattle.line_faults.specs.Faults.{zerosDropped, lowerHex}
 use Rattle.sheet_faults.specs.Sheet.{isFormTwo, valueNamed}
+
+-- a text with A to F as a to f
+unfoldable pub lowered : List ℕ → List ℕ
+lowered [] = []
+lowered (b ∷ s) = lowerHex b ∷ lowered s
+
+-- the value under the name of number k, mended: a number without leading zeros, the key's digits in lower case, a word as it is
+unfoldable pub mendedValue : ℕ → List ℕ → List ℕ
+mendedValue k value =
+    let digits = drop (zerosDropped k value) value in
+    pick (eqb k keyName) (lowered digits) digits
 
 -- what form 1 gains: `form=2`, and 0 for both network codes
 unfoldable pub gained : ℕ → List ℕ

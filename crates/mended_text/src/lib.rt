@@ -3,9 +3,8 @@
 use line_faults::lower_hex;
 use line_faults::names;
 use line_faults::names::has_name;
-use line_faults::names::is_decimal;
 use line_faults::names::name_bytes;
-use line_faults::zeros_in;
+use line_faults::zeros_dropped;
 use line_parts::front;
 use line_parts::rest;
 use lines::index_of;
@@ -16,9 +15,8 @@ ghost use mathlib.Core.Path.{_≡_};
 ghost use Rattle.writing.specs.Writing.{Room, Put};
 ghost use Rattle.line_parts.specs.Line.{equals};
 ghost use Rattle.line_faults.specs.Names.{nameText};
-ghost use Rattle.line_faults.specs.Faults.{lowered, mendedValue};
 ghost use Rattle.sheet_faults.specs.Sheet.{linesOf, isFormTwo};
-ghost use Rattle.mended_text.specs.Text.{gained, valueMended, lineMended, textMended};
+ghost use Rattle.mended_text.specs.Text.{lowered, mendedValue, gained, valueMended, lineMended, textMended};
 
 const FORM: usize = 0;
 
@@ -41,13 +39,11 @@ fn put_mended<'a>(buffer: &'a mut [u8], at: usize, k: usize, value: &'a [u8]) ->
     requires { ⌜ Room (now buffer) at (mendedValue k (now value)) ⌝ }
     ensures { λ r. ⌜ Put (now (buffer .entry)) at (mendedValue k (now (value .entry))) (now (buffer .exit)) r ⌝ }
 {
+    let digits = rest(value, zeros_dropped(k, value));
     if k == names::KEY {
-        return put_lowered(buffer, at, value);
+        return put_lowered(buffer, at, digits);
     }
-    if is_decimal(k) {
-        return put_bytes(buffer, at, rest(value, zeros_in(value)));
-    }
-    put_bytes(buffer, at, value)
+    put_bytes(buffer, at, digits)
 }
 
 // What form 1 gains.

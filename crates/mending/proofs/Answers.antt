@@ -37,16 +37,16 @@ unfolding sheetBad
 bad-long text e = ltb-false mostBytes (length text) (neither _ _ e .0)
 
 -- the text, and then the changes, put into a buffer that is large enough
-module _ (text : List ℕ) (bad : sheetBad text ≡ false) {zeros : List ℕ} (size : length zeros ≡ 41131) where
+module _ (text : List ℕ) (bad : sheetBad text ≡ false) {zeros : List ℕ} (size : length zeros ≡ 4277) where
   pub text-room : Room zeros 0 (textMended (linesOf text))
-  text-room = record { fits = omega (arith, text-most text (bad-long text bad)) }
+  text-room = record { fits = omega (arith, text-most text, bad-long text bad) }
 
   module _ {b : List ℕ} {end : ℕ} (p : Put zeros 0 (textMended (linesOf text)) b end) where
     pub end-within : end ≤ length b
-    end-within = omega (arith, p .ends, put-length p, text-most text (bad-long text bad))
+    end-within = omega (arith, p .ends, put-length p, text-most text, bad-long text bad)
 
     pub changes-room : Room b end (changesText (linesOf text))
-    changes-room = record { fits = omega (arith, p .ends, put-length p, text-most text (bad-long text bad), changes-short (linesOf text)) }
+    changes-room = record { fits = omega (arith, p .ends, put-length p, text-most text, bad-long text bad, changes-short (linesOf text)) }
 
     module _ {b′ : List ℕ} {last : ℕ} (q : Put b end (changesText (linesOf text)) b′ last) where
       whole : Put zeros 0 (sheetMended (linesOf text)) b′ last
@@ -61,7 +61,8 @@ module _ (text : List ℕ) (bad : sheetBad text ≡ false) {zeros : List ℕ} (s
                 omega (
                   arith,
                   length-append (textMended (linesOf text)) (changesText (linesOf text)),
-                  text-most text (bad-long text bad),
+                  text-most text,
+                  bad-long text bad,
                   changes-short (linesOf text),
                 );
           }

@@ -20,8 +20,8 @@ ghost use Rattle.mending.specs.Answer.{mendAs, mendOut, printAs, printOu
 // What is printed fits a buffer of this many bytes.
 pub const ROOM: usize = 218;
 
-// Ten lines, each at most eight bytes longer than a text of 4,096 bytes and its LF, and six changes.
-const SHEET: usize = 41131;
+// A mended text is at most 100 bytes longer than its sheet of 4,096, and the changes are 81.
+const SHEET: usize = 4277;
 
 // refusal 25: a name missing, doubled or unknown for the form, a last line without its LF, or a longer text
 const SHEET_NAMES: u8 = 25;

@@ -17,7 +17,7 @@ use Rattle.sheet_faults.specs.Sheet.{timesNamed, isFormTwo, namesRightFrom, nam
 use Rattle.mends.specs.Refused.{nameAt, OfWhichForm, Missing, Doubled, Unknown}
 use Rattle.mends.proofs.Sheets.{number-named}
 use Rattle.mends.proofs.Names.{numbered, number-top, numberAt, some-place, two-places, one-counts, two-count}
-use Rattle.mends.proofs.Damaged.{has-known}
+use Rattle.mends.proofs.Wanted.{has-known}
 
 -- a line has the name of a number where its number is this one
 

@@ -1,13 +1,13 @@
 -- Texts whose bytes all pass a test, and what is counted and found in a text that is made of parts. Assumes nothing.
 use mathlib.Core.Bool.{Bool, true, false, not, _&&_}
 use mathlib.Core.List.{List, [], _∷_, _++_}
-use mathlib.Core.Path.{_≡_, refl, ap, _∙_}
+use mathlib.Core.Path.{_≡_, refl, sym, ap, _∙_}
 use Prim.Native.Nat.{ℕ, zero, suc, _+_, _-_, _<_}
 use native.Mathlib.Omega.{arith}
-use lib.Dec.{eqb}
+use lib.Dec.{eqb, ltb}
 use lib.ListN.{length, getD, take, replicate, length-append, length-replicate}
-use lib.Seq.{getD-append-add, take-append-add}
-use borrow.Author.Tests.{eq-eqb, lt-ltb, not-true}
+use lib.Seq.{getD-append-add, take-append-add, take-length, take-suc}
+use borrow.Author.Tests.{eq-eqb, lt-ltb, not-true, eqb-true, ltb-true}
 use Rattle.laws.specs.Choice.{pick}
 use Rattle.laws.proofs.Cases.{and-left, and-right}
 use Rattle.lines.specs.Line.{indexOf}
@@ -93,6 +93,16 @@ ends-other b [] e = refl
 ends-other b (x ∷ s) e =
     let some : 0 < suc (length s) = omega arith in
     rw (lt-ltb 0 (suc (length s)) some) (not-true _ (every-at (isOther b) (x ∷ s) (suc (length s) - 1) (omega arith) e))
+
+-- a text that ends with a byte is something and that byte
+pub ends-split : (b : ℕ) (s : List ℕ) → endsWith b s ≡ true → s ≡ take (length s - 1) s ++ (b ∷ [])
+unfolding endsWith
+ends-split b s e =
+    let some : 0 < length s = ltb-true 0 (length s) (and-left (ltb 0 (length s)) _ e) in
+    let last : getD s (length s - 1) 0 ≡ b = eqb-true _ b (and-right (ltb 0 (length s)) (eqb (getD s (length s - 1) 0) b) e) in
+    let z : suc (length s - 1) ≡ length s = omega arith in
+    sym (take-length s) ∙ ap (λ (n : ℕ). take n s) (sym z) ∙ take-suc s (length s - 1) 0 (omega arith)
+    ∙ ap (λ (x : ℕ). take (length s - 1) s ++ (x ∷ [])) last
 
 -- a text without its last byte
 pub front-is : (s : List ℕ) (b : ℕ) → take (length (s ++ (b ∷ [])) - 1) (s ++ (b ∷ [])) ≡ s

@@ -1,11 +1,10 @@
 -- Lines without a fault: the mended text and the text of a good record are made of them. Assumes nothing.
 use mathlib.Core.Bool.{Bool, true, false}
 use mathlib.Core.List.{List, [], _∷_, _++_, map, append-nil, append-assoc}
-use mathlib.Core.Path.{_≡_, refl, ap, _∙_}
+use mathlib.Core.Path.{_≡_, refl, sym, ap, _∙_}
 use Prim.Native.Nat.{ℕ, zero, suc, _+_, _≤_, _<_}
 use native.Mathlib.Omega.{arith}
 use lib.Dec.{eqb}
-use borrow.Author.Tests.{lt-ltb}
 use Rattle.laws.specs.Choice.{pick}
 use Rattle.fields.specs.declared.Fields.{Fields}
 use Rattle.writing.specs.Text.{lf}
@@ -14,6 +13,7 @@ use Rattle.line_parts.specs.Line.{equals}
 use Rattle.line_faults.specs.Names.{nameText, nameCount, hasName, keyName, isDecimal}
 use Rattle.mended_text.specs.Text.{valueMended, lineMended, linesMended}
 use Rattle.mends.specs.Damage.{Damage, valueSaid, namesFrom, namesOfForm, valueDamaged, lineDamaged, sheetDamaged, raised}
+use Rattle.mends.proofs.Wanted.{names-first}
 use Rattle.mends.proofs.Raised.{raised-none}
 
 -- a line without a fault
@@ -51,11 +51,11 @@ module _ (values : ℕ → List ℕ) where
   -- and of a mended text, if its values are these
   pub mended-clean : (two : Bool) (lines : List (List ℕ)) → ((k : ℕ) → k < nameCount → valueMended two lines k ≡ values k)
       → (n k : ℕ) → k + n ≤ nameCount → linesMended two lines k n ≡ clean (namesFrom true k n)
-  unfolding linesMended lineMended namesFrom hasName
+  unfolding linesMended lineMended namesFrom
   mended-clean two lines same zero k h = refl
   mended-clean two lines same (suc n) k h =
-      rw (lt-ltb k nameCount (omega arith))
       (λ i. (nameText k ++ (equals ∷ (same k (omega arith) i ++ (lf ∷ [])))) ++ mended-clean two lines same n (k + 1) (omega arith) i)
+      ∙ ap clean (sym (names-first k n (omega arith)))
 
 -- and of the text of a record of either form
 pub record-clean : (two : Bool) (number : ℕ) (f : Fields) (key : List ℕ) → clean (valueSaid number f key) (namesOfForm two) ≡ formText two number f key

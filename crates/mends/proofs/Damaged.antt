@@ -1,71 +1,40 @@
 -- A sheet made from a good record by any mixture of the faults is mended to that record's form 2 text, and the changes that are listed are
 -- those that were made. Assumes nothing.
-use mathlib.Core.Bool.{Bool, true, false, not, true≢false, _&&_}
+use mathlib.Core.Bool.{Bool, true, false, not, true≢false}
 use mathlib.Core.List.{List, [], _∷_, _++_}
 use mathlib.Core.Path.{_≡_, refl, sym, ap, _∙_}
-use Prim.Native.Nat.{ℕ, zero, suc, _+_, _≤_, _<_, zero-le}
+use Prim.Native.Nat.{ℕ, zero, suc, _+_, _≤_, _<_}
 use native.Mathlib.Omega.{arith}
-use lib.Dec.{eqb, ltb}
+use lib.Dec.{ltb}
 use lib.ListN.{length}
-use borrow.Author.Tests.{eq-eqb, ltb-true, lt-ltb, le-ltb}
+use borrow.Author.Tests.{eq-eqb, le-ltb}
 use Rattle.laws.specs.Choice.{pick}
 use Rattle.laws.proofs.Cases.{and-left, and-right}
-use Rattle.laws.proofs.Tests.{agree}
 use Rattle.fields.specs.declared.Fields.{Fields}
 use Rattle.refusals.specs.Numbers.{done}
 use Rattle.writing.specs.Text.{ascii, digits, digitsWithin}
 use Rattle.record_text.specs.Text.{recordText, Good}
 use Rattle.records.proofs.Promises.{for-two}
-use Rattle.line_faults.specs.Names.{nameCount, formName, mccName, mncName, hasName, sameText}
-use Rattle.line_faults.specs.Faults.{mendedValue}
+use Rattle.line_faults.specs.Names.{nameCount, hasName, sameText}
 use Rattle.line_faults.specs.declared.Fault.the-variants.{Crlf, Hex, Zeros, Spaces}
 use Rattle.sheet_faults.specs.Sheet.{linesOf, timesNamed, valueNamed, isFormTwo, inOrderFrom, namesRightFrom, namesRight, mostBytes, sheetBad}
-use Rattle.mended_text.specs.Text.{gained, valueMended, linesMended, textMended}
+use Rattle.mended_text.specs.Text.{mendedValue, gained, valueMended, linesMended, textMended}
 use Rattle.mending.specs.Changes.{changeText, changesText, sheetMended}
 use Rattle.mending.specs.Answer.{mendRefusal}
-use Rattle.mends.specs.Damage.{Damage, valueSaid, namesFrom, namesOfForm, OfForm, sheetDamaged, madeHex, madeZeros, madeSpaces, changesMade}
+use Rattle.mends.specs.Damage.{Damage, valueSaid, namesOfForm, OfForm, sheetDamaged, madeHex, madeZeros, madeSpaces, changesMade}
 use Rattle.mends.proofs.Printed.{taken}
 use Rattle.mends.proofs.Bytes.{every, both-true}
 use Rattle.mends.proofs.GoodValues.{below-ten, values-in-form}
-use Rattle.mends.proofs.Orders.{countOf, count-order, every-order, rise-or-not}
+use Rattle.mends.proofs.Orders.{count-order, every-order, rise-or-not}
 use Rattle.mends.proofs.Sheets.{AllFine, linesDamaged, namesIn, lines-are, times-are, faults-are, order-is, mended-is, sheet-ends, crlf-seen, hex-seen, zeros-seen, spaces-seen}
+use Rattle.mends.proofs.Wanted.{has-all, has-known, all-named, named-once, form-named, number-wanted}
 use Rattle.mends.proofs.Clean.{mended-clean, record-clean}
-
--- what a form has: known names, each once
-
-pub has-known : (two : Bool) (k : ℕ) → hasName two k ≡ true → k < nameCount
-unfolding hasName
-has-known true k e = ltb-true k nameCount e
-has-known false k e = ltb-true k nameCount (last (not (eqb k formName)) (not (eqb k mccName)) (not (eqb k mncName)) (ltb k nameCount) e)
-  where
-    last : (a b c d : Bool) → a && (b && (c && d)) ≡ true → d ≡ true
-    last a b c d e = and-right c d (and-right b (c && d) (and-right a (b && (c && d)) e))
-
-all-named : (two : Bool) → every (hasName two) (namesOfForm two) ≡ true
-unfolding namesFrom hasName
-all-named true = refl
-all-named false = refl
-
-named-once : (two : Bool) (k : ℕ) → k < nameCount + 1 → countOf k (namesOfForm two) ≡ pick (hasName two k) 1 0
-unfolding namesFrom hasName
-named-once true k h = agree (λ k. countOf k (namesOfForm true)) (λ k. pick (hasName true k) 1 0) 0 (nameCount + 1) tt k zero-le h
-named-once false k h = agree (λ k. countOf k (namesOfForm false)) (λ k. pick (hasName false k) 1 0) 0 (nameCount + 1) tt k zero-le h
-
-form-named : (two : Bool) → ltb 0 (pick (hasName two 0) 1 0) ≡ two
-unfolding hasName
-form-named true = refl
-form-named false = refl
-
-number-named : (two : Bool) → hasName two 1 ≡ true
-unfolding hasName
-number-named true = refl
-number-named false = refl
 
 -- what form 1 gains is what its record has under the names that it lacks
 gained-is : (two : Bool) (number : ℕ) (f : Fields) (key : List ℕ) → Good two number f key → (k : ℕ) → k < nameCount → hasName two k ≡ false
     → gained k ≡ valueSaid number f key k
 unfolding hasName gained valueSaid digits digitsWithin
-gained-is true number f key g k h e = absurd (true≢false (sym (lt-ltb k nameCount h) ∙ e))
+gained-is true number f key g k h e = absurd (true≢false (sym (has-all k h) ∙ e))
 gained-is false number f key g k h e =
     below-ten (λ k. hasName false k ≡ false → gained k ≡ valueSaid number f key k) (λ _. refl) there there there there there there
     (λ _. ap digits (sym (g .mcc))) (λ _. ap digits (sym (g .mnc))) there k h e
@@ -134,7 +103,7 @@ module _ (two : Bool) (number : ℕ) (f : Fields) (key : List ℕ) (good : Good 
 
   some-lines : 0 < length ds
   unfolding timesNamed
-  some-lines = go ds (times 1 (omega arith) ∙ ap (λ (t : Bool). pick t 1 0) (number-named two))
+  some-lines = go ds (times 1 (omega arith) ∙ ap (λ (t : Bool). pick t 1 0) (number-wanted two))
     where
       go : (ds : List Damage) → timesNamed 1 (linesDamaged values ds) ≡ 1 → 0 < length ds
       go [] e = absurd (omega arith)

@@ -18,7 +18,8 @@ use Rattle.writing.specs.Text.{digits, hexDigit, hexText}
 use Rattle.writing.proofs.Digits.{digits-one, digits-ten}
 use Rattle.writing.proofs.Puts.{length-hex}
 use Rattle.line_parts.specs.Line.{leading}
-use Rattle.line_faults.specs.Faults.{zerosIn, isUpperHex, lowerHex, lowered}
+use Rattle.line_faults.specs.Faults.{zerosIn, isUpperHex, lowerHex}
+use Rattle.mended_text.specs.Text.{lowered}
 use Rattle.mends.specs.Kept.{decimalFrom, allDecimal, SaysNumber, isHexDigit, hexDigitOf, halfByteOf, SaysKey}
 
 -- NUMBERS
@@ -67,7 +68,7 @@ unfolding decimalFrom allDecimal
 zeros-say zero n s r = r
 zeros-say (suc z) n s r = let m = zeros-say z n s r in record { some = omega arith; digits = m .digits; is = m .is }
 
-zeros-front : (b m : ℕ) (s : List ℕ) → take (leading b (take m s)) s ≡ replicate (leading b (take m s)) b
+pub zeros-front : (b m : ℕ) (s : List ℕ) → take (leading b (take m s)) s ≡ replicate (leading b (take m s)) b
 unfolding leading
 zeros-front b zero s = refl
 zeros-front b (suc m) [] = refl
@@ -78,12 +79,16 @@ zeros-front b (suc m) (x ∷ s) = go (eqb x b) refl (zeros-front b m s)
     go true e r = λ i. eqb-true x b e i ∷ r i
     go false e r = refl
 
-pub number-kept : (n : ℕ) (v : List ℕ) → drop (zerosIn v) v ≡ digits n → SaysNumber n v
+pub zeros-split : (v : List ℕ) → replicate (zerosIn v) 48 ++ drop (zerosIn v) v ≡ v
 unfolding zerosIn
+zeros-split v =
+    ap (λ (t : List ℕ). t ++ drop (leading 48 (take (length v - 1) v)) v) (sym (zeros-front 48 (length v - 1) v))
+    ∙ take-append-drop (leading 48 (take (length v - 1) v)) v
+
+pub number-kept : (n : ℕ) (v : List ℕ) → drop (zerosIn v) v ≡ digits n → SaysNumber n v
 number-kept n v e =
-    subst (SaysNumber n)
-    ((λ i. sym (zeros-front 48 (length v - 1) v) i ++ sym e i) ∙ take-append-drop (leading 48 (take (length v - 1) v)) v)
-    (zeros-say (leading 48 (take (length v - 1) v)) n (digits n) (digits-say n n (omega arith)))
+    subst (SaysNumber n) (ap (λ (t : List ℕ). replicate (zerosIn v) 48 ++ t) (sym e) ∙ zeros-split v)
+    (zeros-say (zerosIn v) n (digits n) (digits-say n n (omega arith)))
 
 pub number-said : (n : ℕ) → decimalFrom 0 (digits n) ≡ n
 number-said n = digits-say n n (omega arith) .is

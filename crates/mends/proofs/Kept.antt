@@ -7,7 +7,6 @@ use mathlib.Core.Logic.{⊎-elim}
 use Prim.Native.Nat.{ℕ, zero, suc, _+_, _≤_, _<_}
 use native.Mathlib.Omega.{arith}
 use lib.ListN.{length, getD}
-use borrow.Author.Tests.{lt-ltb}
 use Rattle.laws.specs.Choice.{pick}
 use Rattle.laws.proofs.Cases.{lt-or-le}
 use Rattle.fields.specs.declared.Fields.{Fields}
@@ -15,9 +14,9 @@ use Rattle.writing.specs.Text.{ascii, lf, digits, digitsWithin}
 use Rattle.record_text.specs.Text.{Good}
 use Rattle.line_parts.specs.Line.{equals, nameIn, valueIn}
 use Rattle.line_faults.specs.Names.{nameText, nameCount, isDecimal, hasName}
-use Rattle.line_faults.specs.Faults.{mendedValue}
 use Rattle.sheet_faults.specs.Sheet.{linesOf, timesNamed, valueNamed, isFormTwo}
-use Rattle.mended_text.specs.Text.{gained, valueMended, textMended}
+use Rattle.line_faults.specs.Faults.{zerosDropped}
+use Rattle.mended_text.specs.Text.{mendedValue, gained, valueMended, textMended}
 use Rattle.mends.specs.Accepted.{GoodText, AcceptedSheet}
 use Rattle.mends.specs.Damage.{valueSaid, namesFrom}
 use Rattle.mends.specs.Kept.{decimalFrom, SaysIt}
@@ -28,13 +27,9 @@ use Rattle.mends.proofs.Sheets.{name-marks}
 use Rattle.mends.proofs.Clean.{clean, cleanLine, mended-clean, record-clean}
 use Rattle.mends.proofs.Names.{numberAt, number-top, one-counts, value-there}
 use Rattle.mends.proofs.BadNames.{right-sheet, right-times}
-use Rattle.mends.proofs.Damaged.{has-known}
+use Rattle.mends.proofs.Wanted.{has-known, names-first}
 use Rattle.mends.proofs.Digits.{number-kept, number-said, key-kept}
 use Rattle.mends.proofs.Wholes.{Whole, lines-whole, values-whole, cut-alike}
-
-names-first : (k n : ℕ) → k < nameCount → namesFrom true k (suc n) ≡ k ∷ namesFrom true (k + 1) n
-unfolding namesFrom hasName
-names-first k n h = rw (lt-ltb k nameCount h)
 
 -- two texts of lines without a fault that are the same have the same values
 module _ (v w : ℕ → List ℕ) (v-whole : (k : ℕ) → k < nameCount → Whole (v k)) (w-whole : (k : ℕ) → k < nameCount → Whole (w k)) where
@@ -68,7 +63,7 @@ module _ (v w : ℕ → List ℕ) (v-whole : (k : ℕ) → k < nameCount → Who
 -- a value that is mended to what the record has says what the record has
 says-it : (number : ℕ) (f : Fields) (key : List ℕ) → Good true number f key → (k : ℕ) → k < nameCount → (v : List ℕ)
     → mendedValue k v ≡ valueSaid number f key k → SaysIt number f key k v
-unfolding mendedValue isDecimal valueSaid digits digitsWithin
+unfolding mendedValue zerosDropped isDecimal valueSaid digits digitsWithin
 says-it number f key g =
     below-ten (λ k. (v : List ℕ) → mendedValue k v ≡ valueSaid number f key k → SaysIt number f key k v)
     (λ v e. number-kept 2 v e)

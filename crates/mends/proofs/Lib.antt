@@ -6,6 +6,7 @@ pub mod Values
 pub mod Orders
 pub mod Sheets
 pub mod GoodValues
+pub mod Wanted
 pub mod Clean
 pub mod Damaged
 pub mod Unchanged
@@ -17,4 +18,6 @@ pub mod Wholes
 pub mod Kept
 pub mod GoodOrNot
 pub mod OutOfForm
+pub mod Parts
+pub mod OnlyFaults
 pub mod Promises

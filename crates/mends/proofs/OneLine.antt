@@ -55,6 +55,14 @@ module _ (s : List ℕ) (none : endsWith cr s ≡ false) where
   closed-bare true = rw (closed-end true) (front-is s cr)
   closed-bare false = rw (closed-end false) (append-nil s)
 
+-- what is seen of a line
+pub record Seen (line name value : List ℕ) (before after : ℕ) (end : Bool) : Type 0 where
+  pub ends : endsWith cr line ≡ end
+  pub named : nameIn line ≡ name
+  pub says : valueIn line ≡ value
+  pub spaced : isSpaced line ≡ ltb 0 before || ltb 0 after
+  pub whole : every (isOther lf) line ≡ true
+
 -- a line made so
 module _ (name value : List ℕ) (before after : ℕ) (end : Bool) (name-marks : every isMark name ≡ true) (value-marks : every isMark value ≡ true)
     (some : 0 < length value) where
@@ -67,7 +75,7 @@ module _ (name value : List ℕ) (before after : ℕ) (end : Bool) (name-marks :
       ∙ ends-after cr (equals ∷ replicate after space) value some
       ∙ ends-other cr value (marks-without cr value (omega arith) value-marks)
 
-  pub line-end : endsWith cr line ≡ end
+  line-end : endsWith cr line ≡ end
   line-end = closed-end (body name value before after) body-end end
 
   line-bare : bare line ≡ body name value before after
@@ -115,23 +123,23 @@ module _ (name value : List ℕ) (before after : ℕ) (end : Bool) (name-marks :
         leading-none space value (marks-without space value (omega arith) value-marks),
       )
 
-  pub line-name : nameIn line ≡ name
+  line-name : nameIn line ≡ name
   unfolding nameIn
   line-name =
       rw has-equals
       ((λ i. take (length (before-is i) - spaces-before i) (before-is i))
       ∙ take-at name (replicate before space) (length (named name value before after) - before) (omega (arith, named-size)))
 
-  pub line-value : valueIn line ≡ value
+  line-value : valueIn line ≡ value
   unfolding valueIn
   line-value = (λ i. drop (spaces-after i) (after-is i)) ∙ drop-at (replicate after space) value after (length-replicate after space)
 
-  pub line-spaced : isSpaced line ≡ ltb 0 before || ltb 0 after
+  line-spaced : isSpaced line ≡ ltb 0 before || ltb 0 after
   unfolding isSpaced
   line-spaced = λ i. ltb 0 (spaces-before i) || ltb 0 (spaces-after i)
 
   -- no LF stands in it
-  pub line-whole : every (isOther lf) line ≡ true
+  line-whole : every (isOther lf) line ≡ true
   line-whole =
       every-append (isOther lf) (body name value before after) (pick end (cr ∷ []) [])
       (every-append (isOther lf) (named name value before after) (equals ∷ valued name value before after)
@@ -142,3 +150,6 @@ module _ (name value : List ℕ) (before after : ℕ) (end : Bool) (name-marks :
       last : (end : Bool) → every (isOther lf) (pick end (cr ∷ []) []) ≡ true
       last true = refl
       last false = refl
+
+  pub line-seen : Seen line name value before after end
+  line-seen = record { ends = line-end; named = line-name; says = line-value; spaced = line-spaced; whole = line-whole }

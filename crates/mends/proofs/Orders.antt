@@ -1,12 +1,12 @@
 -- Names in any order: how often each occurs, and when they stand in the form's order. Assumes nothing.
 use mathlib.Core.Bool.{Bool, true, false, false≢true, _&&_}
-use mathlib.Core.Logic.{_⊎_, ⊎-elim}
-use mathlib.Core.List.{List, [], _∷_, List·Permᴰ, List·Permᴰ·nil, List·Permᴰ·cons, List·Permᴰ·swap, List·Permᴰ·trans}
+use mathlib.Core.Logic.{_⊎_, inl, inr, ⊎-elim}
+use mathlib.Core.List.{List, [], _∷_, List·Permᴰ, List·Permᴰ·nil, List·Permᴰ·cons, List·Permᴰ·swap, List·Permᴰ·trans, Permᴰ·refl}
 use mathlib.Core.Path.{_≡_, refl, sym, ap, subst, _∙_}
 use Prim.Native.Nat.{ℕ, zero, suc, _+_, _≤_, _<_}
 use native.Mathlib.Omega.{arith}
-use lib.Dec.{eqb, leb}
-use borrow.Author.Tests.{eq-eqb, ne-eqb, eqb-true, leb-true, le-leb}
+use lib.Dec.{eqb, ltb, leb}
+use borrow.Author.Tests.{eq-eqb, ne-eqb, eqb-true, leb-true, le-leb, ltb-true}
 use Rattle.laws.specs.Choice.{pick}
 use Rattle.laws.proofs.Cases.{and-left, and-right, eq-or-ne}
 use Rattle.line_faults.specs.Names.{hasName, sameText}
@@ -47,6 +47,36 @@ every-order p (List·Permᴰ·cons e d) = λ i. p (e i) && every-order p d i
 every-order p (List·Permᴰ·swap {a} {b} {a′} {b′} {l} e f) =
     (λ i. p (e i) && (p (f i) && every p l)) ∙ and-swap (p b′) (p a′) (every p l)
 every-order p (List·Permᴰ·trans d e) = every-order p d ∙ every-order p e
+
+-- and numbers that occur equally often stand in another order
+
+record TakenOut (x : ℕ) (m : List ℕ) : Type 0 where
+  rest : List ℕ
+  order : List·Permᴰ (x ∷ rest) m
+
+take-out : (x : ℕ) (m : List ℕ) → 0 < countOf x m → TakenOut x m
+take-out x [] h = absurd (omega arith)
+take-out x (y ∷ m) h = go (eq-or-ne y x) (take-out x m)
+  where
+    go : (y ≡ x) ⊎ (y ≡ x → ⊥) → (0 < countOf x m → TakenOut x m) → TakenOut x (y ∷ m)
+    go (inl e) rec = record { rest = m; order = List·Permᴰ·cons (sym e) (Permᴰ·refl m) }
+    go (inr n) rec =
+        let t = rec (omega (arith, count-other y x m n, h)) in
+        record { rest = y ∷ t .rest; order = List·Permᴰ·trans (List·Permᴰ·swap refl refl) (List·Permᴰ·cons refl (t .order)) }
+
+pub counted-order : (l m : List ℕ) → ((k : ℕ) → countOf k l ≡ countOf k m) → List·Permᴰ l m
+counted-order [] [] c = List·Permᴰ·nil
+counted-order [] (y ∷ m) c = absurd (omega (arith, c y, count-self y m))
+counted-order (x ∷ l) m c =
+    let t = take-out x m (omega (arith, c x, count-self x l)) in
+    List·Permᴰ·trans (List·Permᴰ·cons refl (counted-order l (t .rest) (λ k. omega (arith, c k, count-order (t .order) k)))) (t .order)
+
+-- a number above them all occurs nowhere
+pub count-above : (n k : ℕ) (l : List ℕ) → n ≤ k → every (λ x. ltb x n) l ≡ true → countOf k l ≡ 0
+count-above n k [] h e = refl
+count-above n k (x ∷ l) h e =
+    let low = ltb-true x n (and-left (ltb x n) (every (λ x. ltb x n) l) e) in
+    count-other x k l (λ z. omega arith) ∙ count-above n k l h (and-right (ltb x n) (every (λ x. ltb x n) l) e)
 
 -- texts that are the same
 

@@ -7,7 +7,7 @@ use mathlib.Core.Path.{_≡_, refl, sym, ap, subst, _∙_}
 use Prim.Native.Nat.{ℕ, _<_}
 use native.Mathlib.Omega.{arith}
 use lib.ListN.{getD}
-use borrow.Author.Tests.{lt-ltb, leb-true, le-leb}
+use borrow.Author.Tests.{leb-true, le-leb}
 use Rattle.laws.specs.Choice.{pick}
 use Rattle.fields.specs.declared.Fields.{Fields}
 use Rattle.fields.proofs.Ranges.{between-low, between-high}
@@ -16,9 +16,8 @@ use Rattle.forms.proofs.Decimals.{between-is}
 use Rattle.record_text.specs.Text.{Good}
 use Rattle.line_parts.specs.Line.{valueIn}
 use Rattle.line_faults.specs.Names.{nameCount, hasName}
-use Rattle.line_faults.specs.Faults.{mendedValue}
 use Rattle.sheet_faults.specs.Sheet.{linesOf, timesNamed, valueNamed, isFormTwo, sheetBad}
-use Rattle.mended_text.specs.Text.{gained, valueMended, textMended}
+use Rattle.mended_text.specs.Text.{mendedValue, gained, valueMended, textMended}
 use Rattle.mending.specs.Answer.{mendRefusal, sheetValueBad}
 use Rattle.mends.specs.Accepted.{GoodText, AcceptedSheet}
 use Rattle.mends.specs.Damage.{valueSaid}
@@ -27,6 +26,7 @@ use Rattle.mends.proofs.GoodValues.{below-ten}
 use Rattle.mends.proofs.Clean.{mended-clean, record-clean}
 use Rattle.mends.proofs.Names.{numberAt, some-place, value-there}
 use Rattle.mends.proofs.BadNames.{right-sheet, right-times}
+use Rattle.mends.proofs.Wanted.{has-all}
 use Rattle.mends.proofs.Wholes.{lines-whole, values-whole}
 use Rattle.mends.proofs.Refusals.{no-bad, value-refused}
 use Rattle.mends.proofs.Kept.{line-said}
@@ -105,7 +105,7 @@ module _ (lines : List (List ℕ)) (all : (k : ℕ) → k < nameCount → GoodVa
 -- what form 1 gains is good
 gained-good : (two : Bool) (k : ℕ) → k < nameCount → hasName two k ≡ false → GoodValue k (gained k)
 unfolding hasName gained digits digitsWithin
-gained-good true k h e = absurd (true≢false (sym (lt-ltb k nameCount h) ∙ e))
+gained-good true k h e = absurd (true≢false (sym (has-all k h) ∙ e))
 gained-good false k h e =
     let zero-good : (high : ℕ) → NumberIn 0 high (ascii "0") = λ high. record { thing = 0; fits = (omega arith, omega arith); is = refl } in
     below-ten (λ k. hasName false k ≡ false → GoodValue k (gained k)) (λ _. refl) there there there there there there

@@ -1,6 +1,8 @@
 -- What mending a damaged record sheet promises (document 02, [12]), of what is printed. Read the definitions in specs/ first: Accepted (a good
--- form 2 text), Refused (25 and 26), Kept (what a line says), Damage (what is done to a sheet, and the changes that were made). Assumes nothing.
-use mathlib.Core.Bool.{Bool, true, false}
+-- form 2 text), Refused (25 and 26), Kept (what a line says), Damage (what is done to a sheet, and the changes that were made). The lines of a
+-- text, joined, are the text, and none has an LF in it (Wholes); its form is 2 where a line has the name `form` (BadNames); a sheet to which
+-- nothing was done is the record's text (Unchanged); no text is refused with another number than 25 and 26 (Refusals). Assumes nothing.
+use mathlib.Core.Bool.{true, false}
 use mathlib.Core.Logic.{_↔_}
 use mathlib.Core.List.{List, [], _++_}
 use mathlib.Core.Path.{_≡_, ap, _∙_}
@@ -18,7 +20,7 @@ use Rattle.mended_text.specs.Text.{textMended}
 use Rattle.mending.specs.Changes.{changeText, changesText, sheetMended}
 use Rattle.mending.specs.Answer.{mendRefusal, textPrinted, printRoom, sheetNamesBad, sheetValueBad}
 use Rattle.mends.specs.Accepted.{GoodText}
-use Rattle.mends.specs.Damage.{Damage, valueSaid, OfForm, sheetDamaged, changesMade}
+use Rattle.mends.specs.Damage.{valueSaid, changesMade, MadeFrom}
 use Rattle.mends.specs.Refused.{BadSheet, BadValue}
 use Rattle.mends.specs.Kept.{SaysIt}
 use Rattle.mends.proofs.Printed.{accepted, all-printed, refused-printed}
@@ -26,7 +28,8 @@ use Rattle.mends.proofs.Unchanged.{good-accepted, good-mended, unchange
 use Rattle.mends.proofs.Refusals.{names-refused}
 use Rattle.mends.proofs.OutOfForm.{out-of-form}
 use Rattle.mends.proofs.Kept.{kept, gained-zero}
-use Rattle.mends.proofs.Damaged.{damaged-accepted, damaged-mended}
+use Rattle.mends.proofs.Damaged.{damaged-mended}
+use Rattle.mends.proofs.OnlyFaults.{exactly-these}
 
 -- the program has room for what it prints
 module _ (room : ℕ) (enough : printRoom ≤ room) where
@@ -82,11 +85,14 @@ module _ (room : ℕ) (enough : printRoom ≤ room) where
       → (r .fields .mcc ≡ 0) × (r .fields .mnc ≡ 0)
   codes-gained text e r two = gained-zero text (record { names = accepted text e .names; mended = r }) two
 
-  -- a sheet made from a good record by any mixture of the faults is mended to that record, and the changes listed are those that were made
-  pub faults-mended : (two : Bool) (number : ℕ) (f : Fields) (key : List ℕ) → Good two number f key → (ds : List Damage) → OfForm two ds
-      → let sheet = sheetDamaged (valueSaid number f key) ds in
-      length sheet ≤ mostBytes
-      → printed sheet ≡ recordText number f key ++ changesMade two (valueSaid number f key) ds
-  faults-mended two number f key g ds order h =
-      all-printed (sheetDamaged (valueSaid number f key) ds) room enough (damaged-accepted two number f key g ds order h)
-      ∙ damaged-mended two number f key g ds order
+  -- a text made from a good record by any mixture of the faults is mended to that record, and the changes listed are those that were made
+  pub faults-mended : (text : List ℕ) → length text ≤ mostBytes → (m : MadeFrom text)
+      → printed text ≡ recordText (m .number) (m .fields) (m .key) ++ changesMade (m .two) (valueSaid (m .number) (m .fields) (m .key)) (m .lines)
+  faults-mended text h m =
+      all-printed text room enough (exactly-these text .1 (m, h))
+      ∙ ap (λ (t : List ℕ). sheetMended (linesOf t)) (m .is)
+      ∙ damaged-mended (m .two) (m .number) (m .fields) (m .key) (m .good) (m .lines) (m .order)
+
+  -- and no other text is accepted
+  pub accepted-exactly : (text : List ℕ) → (mendRefusal text ≡ done) ↔ (MadeFrom text × (length text ≤ mostBytes))
+  accepted-exactly text = exactly-these text

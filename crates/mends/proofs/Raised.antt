@@ -13,7 +13,8 @@ use Rattle.fields.proofs.Ranges.{between-low, between-high}
 use Rattle.forms.proofs.Decimals.{between-is}
 use Rattle.lines.specs.Line.{space}
 use Rattle.line_parts.specs.Line.{equals}
-use Rattle.line_faults.specs.Faults.{isUpperHex, anyUpperHex, lowerHex, lowered}
+use Rattle.line_faults.specs.Faults.{isUpperHex, anyUpperHex, lowerHex}
+use Rattle.mended_text.specs.Text.{lowered}
 use Rattle.mends.specs.Damage.{isRaised, raise, raised, anyRaised}
 use Rattle.mends.proofs.Bytes.{every, both-true}
 use Rattle.mends.proofs.OneLine.{isMark}

@@ -4,13 +4,11 @@ use mathlib.Core.Bool.{Bool, true, false, not, true≢false, false≢true, _||_}
 use mathlib.Core.Logic.{_⊎_, inl, inr, ⊎-elim, _↔_}
 use mathlib.Core.List.{List, [], _∷_, _++_}
 use mathlib.Core.Path.{_≡_, refl, sym, ap, _∙_}
-use Prim.Native.Nat.{ℕ, suc, _+_, _-_, _<_}
+use Prim.Native.Nat.{ℕ, _+_, _-_}
 use native.Mathlib.Omega.{arith}
-use lib.Dec.{eqb, ltb}
-use lib.ListN.{length, getD, take}
-use lib.Seq.{take-suc, take-all}
-use borrow.Author.Tests.{eqb-true, ltb-true}
-use Rattle.laws.proofs.Cases.{and-left, and-right}
+use lib.Dec.{ltb}
+use lib.ListN.{length, take}
+use borrow.Author.Tests.{ltb-true}
 use Rattle.writing.specs.Text.{lf}
 use Rattle.refusals.specs.Numbers.{done, refuse}
 use Rattle.line_parts.specs.Line.{endsWith}
@@ -20,21 +18,11 @@ use Rattle.mending.specs.Changes.{isRecord}
 use Rattle.mending.specs.Answer.{mendRefusal, sheetNamesBad, sheetValueBad}
 use Rattle.mends.specs.Accepted.{GoodText}
 use Rattle.mends.specs.Refused.{BadSheet, long, unended, missing, doubled, unknown}
-use Rattle.mends.proofs.Bytes.{ends-after}
+use Rattle.mends.proofs.Bytes.{ends-after, ends-split}
 use Rattle.mends.proofs.Printed.{accepted, taken, record-is-good, good-is-record, says-form}
 use Rattle.mends.proofs.BadNames.{RightSheet, right-sheet, NamesBad, names-bad, names-wrong}
 
--- a text that ends with LF is something and LF
-ended-front : (text : List ℕ) → endsWith lf text ≡ true → text ≡ take (length text - 1) text ++ (lf ∷ [])
-unfolding endsWith
-ended-front text e =
-    let some : 0 < length text = ltb-true 0 (length text) (and-left (ltb 0 (length text)) _ e) in
-    let last : getD text (length text - 1) 0 ≡ lf = eqb-true _ lf (and-right (ltb 0 (length text)) (eqb (getD text (length text - 1) 0) lf) e) in
-    let z : suc (length text - 1) ≡ length text = omega arith in
-    sym (take-all (length text) text (omega arith)) ∙ ap (λ (n : ℕ). take n text) (sym z)
-    ∙ take-suc text (length text - 1) 0 (omega arith)
-    ∙ ap (λ (b : ℕ). take (length text - 1) text ++ (b ∷ [])) last
-
+-- a text that ends with LF
 front-ended : (front : List ℕ) → endsWith lf (front ++ (lf ∷ [])) ≡ true
 unfolding endsWith
 front-ended front = ends-after lf front (lf ∷ []) (omega arith)
@@ -61,7 +49,7 @@ not-bad text e b = go b
 
     go : BadSheet text → ⊥
     go (long h) = omega (arith, r .short)
-    go (unended n) = n (take (length text - 1) text) (ended-front text (r .ended))
+    go (unended n) = n (take (length text - 1) text) (ends-split lf text (r .ended))
     go (missing m) = names (inl m)
     go (doubled d) = names (inr (inl d))
     go (unknown u) = names (inr (inr u))

@@ -12,15 +12,16 @@ use Rattle.laws.proofs.Cases.{and-left, and-right}
 use Rattle.laws.proofs.Tests.{holds, agree}
 use Rattle.writing.specs.Text.{lf}
 use Rattle.line_parts.specs.Line.{endsWith, valueIn}
-use Rattle.line_faults.specs.Names.{nameText, nameCount, nameNumber, numberIn, numberFrom, sameText, keyName, isDecimal}
-use Rattle.line_faults.specs.Faults.{hasFault, anyUpperHex, zerosIn, mendedValue}
+use Rattle.line_faults.specs.Names.{nameText, nameCount, nameNumber, numberIn, numberFrom, sameText, keyName}
+use Rattle.line_faults.specs.Faults.{hasFault, anyUpperHex, zerosDropped}
+use Rattle.mended_text.specs.Text.{mendedValue}
 use Rattle.line_faults.specs.declared.Fault.{Fault}
 use Rattle.line_faults.specs.declared.Fault.the-variants.{Crlf, Hex, Zeros, Spaces}
 use Rattle.sheet_faults.specs.Sheet.{ontoFirst, linesOf, timesNamed, valueNamed, anyFault, inOrderFrom}
 use Rattle.mends.specs.Damage.{Damage, valueDamaged, lineDamaged, sheetDamaged, anyLine, madeHex, madeZeros, madeSpaces}
 use Rattle.mends.proofs.Bytes.{every, isOther, ends-after}
-use Rattle.mends.proofs.OneLine.{isMark, line-end, line-name, line-value, line-spaced, line-whole}
-use Rattle.mends.proofs.Values.{InForm, damaged-some, damaged-marks, damaged-mended, damaged-hex, damaged-zeros}
+use Rattle.mends.proofs.OneLine.{isMark, Seen, line-seen}
+use Rattle.mends.proofs.Values.{InForm, damaged-some, damaged-marks, damaged-mended, damaged-hex, damaged-zeros, zeros-as}
 use Rattle.mends.proofs.Orders.{countOf, rises}
 
 -- a line before LF is the first
@@ -62,35 +63,28 @@ module _ (values : ℕ → List ℕ) where
     some : 0 < length value
     some = damaged-some d (values (d .name)) (f .form)
 
+    seen : Seen (lineDamaged values d) (nameText (d .name)) value (d .before) (d .after) (d .carriage)
+    unfolding lineDamaged
+    seen = line-seen (nameText (d .name)) value (d .before) (d .after) (d .carriage) (name-marks (d .name) (f .known)) marks some
+
     number-is : numberIn (lineDamaged values d) ≡ d .name
-    unfolding lineDamaged
-    number-is =
-        ap nameNumber (line-name (nameText (d .name)) value (d .before) (d .after) (d .carriage) (name-marks (d .name) (f .known)) marks some)
-        ∙ number-named (d .name) (f .known)
-
-    value-is : valueIn (lineDamaged values d) ≡ value
-    unfolding lineDamaged
-    value-is = line-value (nameText (d .name)) value (d .before) (d .after) (d .carriage) (name-marks (d .name) (f .known)) marks some
-
-    whole : every (isOther lf) (lineDamaged values d) ≡ true
-    unfolding lineDamaged
-    whole = line-whole (nameText (d .name)) value (d .before) (d .after) (d .carriage) (name-marks (d .name) (f .known)) marks some
+    number-is = ap nameNumber (seen .named) ∙ number-named (d .name) (f .known)
 
     pub crlf-seen : hasFault Crlf (lineDamaged values d) ≡ d .carriage
-    unfolding hasFault lineDamaged
-    crlf-seen = line-end (nameText (d .name)) value (d .before) (d .after) (d .carriage) (name-marks (d .name) (f .known)) marks some
+    unfolding hasFault
+    crlf-seen = seen .ends
 
     pub hex-seen : hasFault Hex (lineDamaged values d) ≡ madeHex values d
     unfolding hasFault
-    hex-seen = (λ i. eqb (number-is i) keyName && anyUpperHex (value-is i)) ∙ damaged-hex d (values (d .name)) (f .form)
+    hex-seen = (λ i. eqb (number-is i) keyName && anyUpperHex (seen .says i)) ∙ damaged-hex d (values (d .name)) (f .form)
 
     pub zeros-seen : hasFault Zeros (lineDamaged values d) ≡ madeZeros d
     unfolding hasFault
-    zeros-seen = (λ i. isDecimal (number-is i) && ltb 0 (zerosIn (value-is i))) ∙ damaged-zeros d (values (d .name)) (f .form)
+    zeros-seen = (λ i. ltb 0 (zerosDropped (number-is i) (seen .says i))) ∙ zeros-as (d .name) value ∙ damaged-zeros d (values (d .name)) (f .form)
 
     pub spaces-seen : hasFault Spaces (lineDamaged values d) ≡ madeSpaces d
-    unfolding hasFault lineDamaged
-    spaces-seen = line-spaced (nameText (d .name)) value (d .before) (d .after) (d .carriage) (name-marks (d .name) (f .known)) marks some
+    unfolding hasFault
+    spaces-seen = seen .spaced
 
   -- all lines
 
@@ -104,7 +98,7 @@ module _ (values : ℕ → List ℕ) where
   unfolding sheetDamaged linesOf
   lines-are [] f = refl
   lines-are (d ∷ ds) f =
-      lines-first (lineDamaged values d) (sheetDamaged values ds) (whole d (f .0))
+      lines-first (lineDamaged values d) (sheetDamaged values ds) (seen d (f .0) .whole)
       ∙ ap (λ (l : List (List ℕ)). lineDamaged values d ∷ l) (lines-are ds (f .1))
 
   pub times-are : (k : ℕ) (ds : List Damage) → AllFine ds → timesNamed k (linesDamaged ds) ≡ countOf k (namesIn ds)
@@ -115,8 +109,8 @@ module _ (values : ℕ → List ℕ) where
   pub faults-are : (fault : Fault) (made : Damage → Bool) → ((d : Damage) → Fine d → hasFault fault (lineDamaged values d) ≡ made d)
       → (ds : List Damage) → AllFine ds → anyFault fault (linesDamaged ds) ≡ anyLine made ds
   unfolding anyFault anyLine
-  faults-are fault made seen [] f = refl
-  faults-are fault made seen (d ∷ ds) f = λ i. seen d (f .0) i || faults-are fault made seen ds (f .1) i
+  faults-are fault made sees [] f = refl
+  faults-are fault made sees (d ∷ ds) f = λ i. sees d (f .0) i || faults-are fault made sees ds (f .1) i
 
   pub order-is : (k : ℕ) (ds : List Damage) → AllFine ds → inOrderFrom k (linesDamaged ds) ≡ rises k (namesIn ds)
   unfolding inOrderFrom
@@ -138,7 +132,7 @@ module _ (values : ℕ → List ℕ) where
           → mendedValue k (pick t (valueIn (lineDamaged values d)) (valueNamed k (linesDamaged ds))) ≡ values k
       go true e h rec =
           let z : d .name ≡ k = eqb-true (d .name) k e in
-          ap (mendedValue k) (value-is d (f .0))
+          ap (mendedValue k) (seen d (f .0) .says)
           ∙ ap (λ (n : ℕ). mendedValue n (valueDamaged d (values (d .name)))) (sym z)
           ∙ damaged-mended d (values (d .name)) (f .0 .form)
           ∙ ap values z

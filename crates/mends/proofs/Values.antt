@@ -10,7 +10,9 @@ use lib.Seq.{take-append-add, drop-at}
 use Rattle.laws.specs.Choice.{pick}
 use Rattle.line_parts.specs.Line.{leading}
 use Rattle.line_faults.specs.Names.{keyName, algName, useName, isDecimal}
-use Rattle.line_faults.specs.Faults.{zerosIn, anyUpperHex, lowered, mendedValue}
+use Rattle.line_faults.specs.Faults.{zerosIn, zerosDropped, anyUpperHex}
+use Rattle.mended_text.specs.Text.{lowered, mendedValue}
+use Rattle.mended_text.proofs.Laws.{mended-cases}
 use Rattle.mends.specs.Damage.{Damage, raised, anyRaised, valueDamaged, madeZeros}
 use Rattle.mends.proofs.Bytes.{every, every-append, every-same, leading-more}
 use Rattle.mends.proofs.OneLine.{isMark}
@@ -48,6 +50,19 @@ key-no-number k e = rw e (go (eqb k algName) (eqb k useName))
 abbrev given : Damage → List ℕ → Bool → Bool → List ℕ
 given d v k n = pick k (raised (d .upper) v) (pick n (replicate (d .zeros) 48 ++ v) v)
 
+-- what a value is mended to, and whether zeros are dropped, by these two tests
+
+abbrev pub mendedAs : List ℕ → Bool → Bool → List ℕ
+mendedAs v k n = pick k (lowered v) (pick n (drop (zerosIn v) v) v)
+
+pub zeros-as : (k : ℕ) (v : List ℕ) → ltb 0 (zerosDropped k v) ≡ isDecimal k && ltb 0 (zerosIn v)
+unfolding zerosDropped
+zeros-as k v = go (isDecimal k)
+  where
+    go : (n : Bool) → ltb 0 (pick n (zerosIn v) 0) ≡ n && ltb 0 (zerosIn v)
+    go true = refl
+    go false = refl
+
 module _ (d : Damage) (v : List ℕ) (f : InForm (d .name) v) where
   zeros-said : isDecimal (d .name) ≡ true → zerosIn (replicate (d .zeros) 48 ++ v) ≡ d .zeros
   zeros-said e = omega (arith, zeros-more (d .zeros) v (f .some), f .number e)
@@ -71,11 +86,11 @@ module _ (d : Damage) (v : List ℕ) (f : InForm (d .name) v) where
       go false false = f .marks
 
   pub damaged-mended : mendedValue (d .name) (valueDamaged d v) ≡ v
-  unfolding mendedValue valueDamaged
-  damaged-mended = go (eqb (d .name) keyName) (isDecimal (d .name)) refl refl
+  unfolding valueDamaged
+  damaged-mended = mended-cases (d .name) (valueDamaged d v) ∙ go (eqb (d .name) keyName) (isDecimal (d .name)) refl refl
     where
       go : (k n : Bool) → eqb (d .name) keyName ≡ k → isDecimal (d .name) ≡ n
-          → pick k (lowered (given d v k n)) (pick n (drop (zerosIn (given d v k n)) (given d v k n)) (given d v k n)) ≡ v
+          → mendedAs (given d v k n) k n ≡ v
       go true n x y = raised-back (d .upper) v (f .hex x)
       go false true x y =
           ap (λ (m : ℕ). drop m (replicate (d .zeros) 48 ++ v)) (zeros-said y)

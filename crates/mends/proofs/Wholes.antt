@@ -2,7 +2,7 @@
 -- Assumes nothing.
 use mathlib.Core.Bool.{Bool, true, false, not, false≢true}
 use mathlib.Core.List.{List, [], _∷_, _++_, head-eq-of-cons-eq, tail-eq-of-cons-eq}
-use mathlib.Core.Path.{_≡_, refl, sym, ap, _∙_}
+use mathlib.Core.Path.{_≡_, refl, sym, ap, subst, _∙_}
 use Prim.Native.Nat.{ℕ, zero, suc, _+_, _-_, _<_}
 use native.Mathlib.Omega.{arith}
 use lib.Dec.{eqb}
@@ -15,9 +15,11 @@ use Rattle.writing.specs.Text.{ascii, lf}
 use Rattle.lines.specs.Line.{space, indexOf}
 use Rattle.line_parts.specs.Line.{cr, equals, endsWith, leading, bare, afterEquals, valueIn}
 use Rattle.line_faults.specs.Names.{formName, keyName, numberIn, isDecimal, hasName}
-use Rattle.line_faults.specs.Faults.{zerosIn, isUpperHex, lowerHex, lowered, mendedValue}
+use Rattle.line_faults.specs.Faults.{zerosIn, isUpperHex, lowerHex}
 use Rattle.sheet_faults.specs.Sheet.{ontoFirst, linesOf, valueNamed}
-use Rattle.mended_text.specs.Text.{gained, valueMended}
+use Rattle.mended_text.specs.Text.{lowered, mendedValue, gained, valueMended}
+use Rattle.mended_text.proofs.Laws.{mended-cases}
+use Rattle.mends.proofs.Values.{mendedAs}
 use Rattle.mends.specs.Kept.{joinedLines}
 use Rattle.mends.proofs.Bytes.{every, both-true, isOther, ends-after}
 
@@ -120,10 +122,9 @@ lowered-whole (b ∷ s) w =
     both-true (lower-whole b (and-left (isOther lf b) (every (isOther lf) s) w)) (lowered-whole s (and-right (isOther lf b) (every (isOther lf) s) w))
 
 mended-whole : (k : ℕ) (v : List ℕ) → Whole v → Whole (mendedValue k v)
-unfolding mendedValue
-mended-whole k v w = go (eqb k keyName) (isDecimal k)
+mended-whole k v w = subst Whole (sym (mended-cases k v)) (go (eqb k keyName) (isDecimal k))
   where
-    go : (x y : Bool) → Whole (pick x (lowered v) (pick y (drop (zerosIn v) v) v))
+    go : (x y : Bool) → Whole (mendedAs v x y)
     go true y = lowered-whole v w
     go false true = every-drop (isOther lf) (zerosIn v) v w
     go false false = w

@@ -2,6 +2,7 @@
 -- spaces beside the `=`, zeros before a number, digits of the key in upper case. Assumes nothing: these are definitions.
 use mathlib.Core.Bool.{Bool, false, not, _&&_, _||_}
 use mathlib.Core.List.{List, [], _∷_, _++_, map, List·Permᴰ}
+use mathlib.Core.Path.{_≡_}
 use Prim.Native.Nat.{ℕ, zero, suc, _+_, _-_}
 use lib.Dec.{eqb, ltb}
 use lib.ListN.{getD, replicate}
@@ -10,7 +11,7 @@ use Rattle.algorithms.specs.Algorithm.{nameOf}
 use Rattle.fields.specs.Fields.{between}
 use Rattle.fields.specs.declared.Fields.{Fields}
 use Rattle.writing.specs.Text.{ascii, lf, digits, hexText}
-use Rattle.record_text.specs.Text.{useWord}
+use Rattle.record_text.specs.Text.{useWord, Good}
 use Rattle.lines.specs.Line.{space}
 use Rattle.line_parts.specs.Line.{cr, equals}
 use Rattle.line_faults.specs.Names.{nameCount, keyName, nameText, isDecimal, hasName, sameText}
@@ -87,6 +88,17 @@ sheetDamaged values (d ∷ ds) = lineDamaged values d ++ (lf ∷ sheetDamaged va
 -- the lines of the sheet are those of the form, in any order
 abbrev pub OfForm : Bool → List Damage → Type 0
 OfForm two ds = List·Permᴰ (namesOfForm two) (map (λ d. d .name) ds)
+
+-- a text that is made from a good record by these faults
+pub record MadeFrom (text : List ℕ) : Type 0 where
+  pub two : Bool
+  pub number : ℕ
+  pub fields : Fields
+  pub key : List ℕ
+  pub good : Good two number fields key
+  pub lines : List Damage
+  pub order : OfForm two lines
+  pub is : text ≡ sheetDamaged (valueSaid number fields key) lines
 
 -- THE CHANGES THAT WERE MADE
 

@@ -257,10 +257,10 @@ above-seven s r h = go (r .stuck .could .two) refl
 
 -- WRITING, in form 2 only
 
--- what is read, of either form, is good for form 2
-pub for-two : (two : Bool) {number : ℕ} {f : Fields} {key : List ℕ} → Good two number f key → Good true number f key
-for-two true g = g
-for-two false g =
+-- a good record is good for the other form too, if its network codes are
+pub of-form : (two other : Bool) {number : ℕ} {f : Fields} {key : List ℕ} → Good two number f key → InCode other 1023 (f .mcc) → InCode other 16383 (f .mnc)
+    → Good other number f key
+of-form two other g mcc mnc =
     record {
       slot = g .slot;
       version = g .version;
@@ -268,11 +268,16 @@ for-two false g =
       usage = g .usage;
       side = g .side;
       place = g .place;
-      mcc = omega (arith, g .mcc);
-      mnc = omega (arith, g .mnc);
+      mcc = mcc;
+      mnc = mnc;
       size = g .size;
       bytes = g .bytes;
     }
+
+-- what is read, of either form, is good for form 2
+pub for-two : (two : Bool) {number : ℕ} {f : Fields} {key : List ℕ} → Good two number f key → Good true number f key
+for-two true g = g
+for-two false g = of-form false true g (omega (arith, g .mcc)) (omega (arith, g .mnc))
 
 -- what is read is written as the text of form 2 of the same key, into any buffer that has room for it
 pub read-then-written-new : (s b : List ℕ) → recordRead s .refusal ≡ done

@@ -6,7 +6,7 @@ use lib.ListN.{length, drop, set, length-set}
 use lib.Seq.{sets}
 use borrow.Author.Needs.{needs}
 use Rattle.writing.proofs.Puts.{put-more, put-all}
-use Rattle.line_faults.specs.Faults.{lowered}
+use Rattle.mended_text.specs.Text.{lowered}
 use Rattle.mended_text.proofs.Laws.{length-lowered, lowered-at}
 use Rattle.mended_text.proofs.put_lowered.Statement.{statement}
 use Rattle.mended_text.proofs.put_lowered.Tie as tie

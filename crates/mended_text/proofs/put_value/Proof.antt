@@ -2,9 +2,8 @@
 use mathlib.Core.Path.{_≡_, sym, ap, _∙_}
 use borrow.Author.Needs.{needs}
 use Rattle.writing.proofs.Puts.{put-as, put-length, room-as}
-use Rattle.line_faults.specs.Faults.{mendedValue}
 use Rattle.sheet_faults.specs.Sheet.{linesOf}
-use Rattle.mended_text.specs.Text.{gained, valueMended}
+use Rattle.mended_text.specs.Text.{mendedValue, gained, valueMended}
 use Rattle.mended_text.proofs.Laws.{value-given, value-gained}
 use Rattle.mended_text.proofs.put_value.Statement.{statement}
 use Rattle.mended_text.proofs.put_value.Tie as tie

@@ -18,8 +18,8 @@ use Rattle.mending.proofs.mend.Statement.{statement}
 use Rattle.mending.proofs.mend.Tie as tie
 
 -- the buffer of the sheet
-size : length (replicate {A = ℕ} 41131 0) ≡ 41131
-size = length-replicate {A = ℕ} 41131 0
+size : length (replicate {A = ℕ} 4277 0) ≡ 4277
+size = length-replicate {A = ℕ} 4277 0
 
 -- a sheet that is not refused with 25
 good : (c : tie.Else1) → sheetBad (c .before .before .before .before .args .text .now) ≡ false
