@@ -5,9 +5,7 @@
  * Link with libmending.a, which `rt staticlib mending` writes; a program that only uses the card needs libcard.a alone.
  * What card.h says of answers, of refused calls and of what the caller sees to holds here too.
  *
- * What is mended holds a key, and a call leaves copies of it on the stack below it, of which it uses 42,000 bytes. Who wipes
- * them with card_wipe.h defines CARD_WIPE_BYTES as 65536 before it is included: the 16,384 bytes that are enough after the
- * card's calls are too few here.
+ * What is mended holds a key, and a call leaves copies of it on the stack below it: card_wipe.h has what wipes them.
  */
 
 #ifndef CARD_MEND_H
