@@ -22,7 +22,7 @@
 #include <stddef.h>
 #include <stdint.h>
 
-/* No call of the card was seen to use more than 4,300 bytes; tests/hygiene holds them to half of this. */
+/* No call of the card was seen to use more than 4,900 bytes; tests/hygiene holds them to half of this. */
 #ifndef CARD_WIPE_BYTES
 #define CARD_WIPE_BYTES 16384
 #endif

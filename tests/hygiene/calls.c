@@ -11,6 +11,7 @@
 enum { PLACE = 28 };
 
 static struct card_slot chosen[CARD_SLOTS], table[CARD_SLOTS];
+static uint8_t keys[KEY_SETS][CARD_SLOTS][CARD_KEY_BYTES];
 static uint8_t key[CARD_KEY_BYTES], iv[CARD_IV_BYTES], read_key[CARD_KEY_BYTES];
 static uint8_t text[CARD_RECORD_BYTES + 1], sheet[CARD_SLOTS * CARD_RECORD_BYTES + 1], buffer[CARD_BUFFER_BYTES];
 static uint64_t number, target, other, direction, shown[8], found;
@@ -233,33 +234,36 @@ static uint8_t rust_slotlist(void)
     return bound_slotlist(sheet, sheet_bytes);
 }
 
-/* A refused call, a read and every call of the Rust bindings. */
+/* A refused call, a read, a clear, a PDU with no piece and every call of the Rust bindings: not a byte that depends on a key. */
 static const struct bar nothing;
 
-/* Load, move and clear: the one key concerned. So is that of the slot of traffic or of a PDU that is refused, or has no piece:
-   the slot is taken with its key before the call is judged. Nothing is what was asked for there (docs/KEY-HYGIENE.md). */
-static const struct bar its_key = {{{[THE_KEY] = 24}}, {{[THE_KEY] = 24}}};
+/* A slot with a key and no fields is bad, and so is its table. Whether its key is zero is seen by joining its bytes, and the joins
+   stay in a register: no byte of the key, but what depends on it. */
+static const struct bar its_joins = {{{0}, 0}, {{0}, 16}};
+
+/* Load and move: the one key concerned, that a move has twice on its stack. */
+static const struct bar its_key = {{{[THE_KEY] = 24}, 48}, {{[THE_KEY] = 24}, 32}};
 
 /* Traffic, PDU and bench: what they were seen to leave before calls worked on the table in place, but for the other keys; and
    of keystream the last two blocks, beside which a byte may go on by chance. */
 static const struct bar its_cipher = {
-    {{[THE_KEY] = 24, [MODE_KEY] = 24, [MODE_VALUE] = 24, [SCHEDULE] = 456, [KEYSTREAM] = 2 * 32 + 4}},
-    {{[THE_KEY] = 24, [KEYSTREAM] = 2 * 32}},
+    {{[THE_KEY] = 24, [MODE_KEY] = 24, [MODE_VALUE] = 24, [SCHEDULE] = 456, [KEYSTREAM] = 2 * 32 + 4}, 900},
+    {{[THE_KEY] = 24, [KEYSTREAM] = 2 * 32}, 64},
 };
 
 /* The plain engine, which hands its schedule on by value: the C library copies it through wide registers. */
 static const struct bar its_plain = {
-    {{[MODE_KEY] = 24, [MODE_VALUE] = 24, [SCHEDULE] = 456, [KEYSTREAM] = 32}},
-    {{[SCHEDULE] = 456, [KEYSTREAM] = 32}},
+    {{[MODE_KEY] = 24, [MODE_VALUE] = 24, [SCHEDULE] = 456, [KEYSTREAM] = 32 + 4}, 1800},
+    {{[SCHEDULE] = 456, [KEYSTREAM] = 32}, 640},
 };
 
 /* The records: the key, and its digits in registers. */
-static const struct bar its_text = {{{[THE_KEY] = 24}}, {{[THE_KEY] = 24, [KEY_AS_TEXT] = 32}}};
+static const struct bar its_text = {{{[THE_KEY] = 24}, 72}, {{[THE_KEY] = 24, [KEY_AS_TEXT] = 32}, 96}};
 
 /* A sheet: every key of it, since its table is on the stack. */
 static const struct bar its_sheet = {
-    {{[THE_KEY] = 24, [OTHER_KEYS] = 720}},
-    {{[THE_KEY] = 24, [OTHER_KEYS] = 720}},
+    {{[THE_KEY] = 24, [OTHER_KEYS] = 720}, 3100},
+    {{[THE_KEY] = 24, [OTHER_KEYS] = 720}, 500},
 };
 
 const struct keyed_call keyed_calls[KEYED_CALLS] = {
@@ -268,20 +272,20 @@ const struct keyed_call keyed_calls[KEYED_CALLS] = {
     {"  refused with 21", load_of_tea6, CARD_OUT_OF_SERVICE, &nothing},
     {"card_move", make_move, CARD_DONE, &its_key},
     {"  refused with 9", refused_move, CARD_TARGET_FILLED, &nothing},
-    {"card_clear", make_clear, CARD_DONE, &its_key},
+    {"card_clear", make_clear, CARD_DONE, &nothing},
     {"  refused with 8", refused_clear, CARD_SLOT_EMPTY, &nothing},
     {"card_read", make_read, CARD_DONE, &nothing},
     {"  refused with 8", refused_read, CARD_SLOT_EMPTY, &nothing},
     {"card_traffic", make_traffic, CARD_DONE, &its_cipher},
     {"  refused with 7", traffic_of_no_slot, CARD_SLOT_NUMBER, &nothing},
-    {"  refused with 21", send_with_tea6, CARD_OUT_OF_SERVICE, &its_key},
-    {"  refused with 4", traffic_of_no_bits, CARD_LENGTH, &its_key},
-    {"  with 16, key", traffic_beside_no_fields, CARD_TABLE, &its_key},
-    {"  with 16, fields", traffic_beside_bad_fields, CARD_TABLE, &its_key},
+    {"  refused with 21", send_with_tea6, CARD_OUT_OF_SERVICE, &nothing},
+    {"  refused with 4", traffic_of_no_bits, CARD_LENGTH, &nothing},
+    {"  with 16, key", traffic_beside_no_fields, CARD_TABLE, &its_joins},
+    {"  with 16, fields", traffic_beside_bad_fields, CARD_TABLE, &nothing},
     {"card_pdu", make_pdu, CARD_DONE, &its_cipher},
-    {"  refused with 6", pdu_past_the_buffer, CARD_SPAN, &its_key},
-    {"  refused with 19", pdu_of_no_parts, CARD_PDU_PARTS, &its_key},
-    {"  with no piece", clear_pdu, CARD_DONE, &its_key},
+    {"  refused with 6", pdu_past_the_buffer, CARD_SPAN, &nothing},
+    {"  refused with 19", pdu_of_no_parts, CARD_PDU_PARTS, &nothing},
+    {"  with no piece", clear_pdu, CARD_DONE, &nothing},
     {"card_bench", make_bench, CARD_DONE, &its_cipher},
     {"  refused with 4", refused_bench, CARD_LENGTH, &nothing},
     {"card_plain", make_plain, CARD_DONE, &its_plain},
@@ -301,6 +305,14 @@ const struct keyed_call keyed_calls[KEYED_CALLS] = {
     {"Rust slotlist", rust_slotlist, CARD_DONE, &nothing},
 };
 
+/* No byte is the same in both sets. */
+static void choose_keys(uint64_t *generator, uint64_t of)
+{
+    random_bytes(generator, keys[LOOKED_FOR][of - 1], CARD_KEY_BYTES);
+    for (int i = 0; i < CARD_KEY_BYTES; i++)
+        keys[OTHERS][of - 1][i] = (uint8_t)(keys[LOOKED_FOR][of - 1][i] ^ (1 + generator_next(generator) % 255));
+}
+
 /* All slots are filled but the target. */
 static void choose_table(uint64_t *generator)
 {
@@ -312,9 +324,8 @@ static void choose_table(uint64_t *generator)
         if (i == target)
             continue;
         chosen[i - 1] = (struct card_slot){1, algorithm, CARD_FOR_BOTH, 0, PLACE, 0, 0, {0}};
-        random_bytes(generator, chosen[i - 1].key, CARD_KEY_BYTES);
+        choose_keys(generator, i);
     }
-    memcpy(chosen[number - 1].key, key, CARD_KEY_BYTES);
 }
 
 /* Writes the record of a slot, with an algorithm, and returns its length. */
@@ -331,21 +342,35 @@ static size_t write_record(uint8_t *to, uint64_t of, uint8_t with)
 }
 
 /* The text is the slot's record, the sheet has one of each slot that is filled, to be loaded. */
-static void choose_text(void)
+static void write_text(void)
 {
     text_bytes = write_record(text, number, algorithm);
     sheet_bytes = 0;
     for (uint64_t i = 1; i <= CARD_SLOTS; i++)
         if (i != target)
             sheet_bytes += write_record(sheet + sheet_bytes, i, served());
-    secrets_add(THE_KEY, key, CARD_KEY_BYTES);
-    secrets_add(KEY_AS_TEXT, text + text_bytes - 1 - 2 * CARD_KEY_BYTES, 2 * CARD_KEY_BYTES);
+}
+
+void calls_take_keys(enum keys which)
+{
+    memcpy(key, keys[which][number - 1], CARD_KEY_BYTES);
+    for (uint64_t i = 1; i <= CARD_SLOTS; i++)
+        if (i != target)
+            memcpy(chosen[i - 1].key, keys[which][i - 1], CARD_KEY_BYTES);
+    write_text();
+}
+
+const uint8_t *calls_key(void)
+{
+    return key;
 }
 
 static void choose_secrets(void)
 {
     static struct oracle_secrets made;
 
+    secrets_add(THE_KEY, key, CARD_KEY_BYTES);
+    secrets_add(KEY_AS_TEXT, text + text_bytes - 1 - 2 * CARD_KEY_BYTES, 2 * CARD_KEY_BYTES);
     oracle_secrets(algorithm, key, iv, &made);
     for (uint64_t i = 1; i <= CARD_SLOTS; i++)
         if (i != number && i != target)
@@ -369,7 +394,6 @@ static void choose_pdu(void)
 void calls_choose(uint64_t *generator)
 {
     secrets_begin();
-    random_bytes(generator, key, sizeof key);
     random_bytes(generator, iv, sizeof iv);
     algorithm = (uint8_t)(CARD_TEA5 + generator_next(generator) % 3);
     if (algorithm == CARD_TEA6)
@@ -380,7 +404,7 @@ void calls_choose(uint64_t *generator)
     start = generator_next(generator) % (8 * sizeof buffer - length + 1);
     choose_pdu();
     choose_table(generator);
-    choose_text();
+    calls_take_keys(LOOKED_FOR);
     choose_secrets();
     secrets_ready();
 }

@@ -5,116 +5,17 @@
 #include <stdlib.h>
 #include <string.h>
 
-#include "calls.h"
 #include "card_wipe.h"
+#include "measure.h"
 #include "registers.h"
-#include "secrets.h"
-#include "stack.h"
 
 enum { SEED = 1 };
 
-/* The most over all rounds: of the stack used, of its bytes that aren't zero, and of each secret found. */
-struct most {
-    size_t stack, not_zero;
-    struct found on_stack, in_registers;
-};
-
 static struct most bare[KEYED_CALLS], wiped[KEYED_CALLS];
-static const struct keyed_call *present;
-static uint8_t answer;
-
-static __attribute__((noinline)) void call_alone(void)
-{
-    answer = present->make();
-    registers_keep();
-}
-
-static __attribute__((noinline)) void call_and_wipe(void)
-{
-    answer = present->make();
-    card_wipe_stack();
-    registers_keep();
-}
-
-/* Leaves eight bytes of each secret on the stack and nothing else. */
-static __attribute__((noinline)) void plant(void)
-{
-    uint8_t planted[SECRETS][8];
-
-    for (int secret = 0; secret < SECRETS; secret++)
-        memcpy(planted[secret], secrets_sample((enum secret)secret), 8);
-    __asm__ volatile("" ::"r"(planted) : "memory");
-}
-
-static void raise_to(size_t *most, size_t number)
-{
-    if (number > *most)
-        *most = number;
-}
-
-static void raise_found(struct found *most)
-{
-    struct found found = secrets_found();
-
-    for (int i = 0; i < SECRETS; i++)
-        raise_to(&most->bytes[i], found.bytes[i]);
-}
-
-static size_t not_zero(struct stack_left left)
-{
-    size_t count = 0;
-
-    for (size_t i = 0; i < left.count; i++)
-        count += left.bytes[i] != 0;
-    return count;
-}
-
-/* Each by itself: what stands beside it here is another register, and may go on by chance. */
-static void look_at_registers(void)
-{
-    const struct registers *kept = &registers_kept;
-
-    secrets_look((const uint8_t *)kept->narrow, sizeof kept->narrow, sizeof kept->narrow[0]);
-    secrets_look(kept->vector[0], sizeof kept->vector, sizeof kept->vector[0]);
-    secrets_look(kept->wide[0], sizeof kept->wide, sizeof kept->wide[0]);
-}
-
-static int measure(const struct keyed_call *call, void (*work)(void), struct most *most)
-{
-    struct stack_left left;
-
-    present = call;
-    calls_restore();
-    registers_clear();
-    left = stack_run(work);
-    if (answer != call->answer) {
-        fprintf(stderr, "hygiene: %s answers %u\n", call->name, answer);
-        return 1;
-    }
-    raise_to(&most->stack, left.count);
-    raise_to(&most->not_zero, not_zero(left));
-    secrets_look(left.bytes, left.count, left.count);
-    raise_found(&most->on_stack);
-    look_at_registers();
-    raise_found(&most->in_registers);
-    return 0;
-}
-
-static int planted_is_found(void)
-{
-    struct stack_left left = stack_run(plant);
-    struct found found;
-    int faults = 0;
-
-    secrets_look(left.bytes, left.count, left.count);
-    found = secrets_found();
-    for (int i = 0; i < SECRETS; i++)
-        faults += found.bytes[i] < 8;
-    return faults == 0;
-}
 
 static void print_found(const struct found *found)
 {
+    printf(" %11zu", found->by_key);
     for (int i = 0; i < SECRETS; i++)
         printf(" %11zu", found->bytes[i]);
     printf("\n");
@@ -122,7 +23,7 @@ static void print_found(const struct found *found)
 
 static void print_table(const char *title, const struct most *all)
 {
-    printf("%s\n%-18s %6s %8s", title, "call", "stack", "not zero");
+    printf("%s\n%-18s %6s %8s %11s", title, "call", "stack", "not zero", "by key");
     for (int i = 0; i < SECRETS; i++)
         printf(" %11s", secret_names[i]);
     printf("\n");
@@ -137,7 +38,7 @@ static void print_table(const char *title, const struct most *all)
 
 static size_t sum(const struct found *found)
 {
-    size_t all = 0;
+    size_t all = found->by_key;
 
     for (int i = 0; i < SECRETS; i++)
         all += found->bytes[i];
@@ -156,7 +57,7 @@ static int within(const struct found *found, const struct found *bar)
     for (int i = 0; i < SECRETS; i++)
         if (found->bytes[i] > bar->bytes[i])
             return 0;
-    return 1;
+    return found->by_key <= bar->by_key;
 }
 
 static int judge(int i)
@@ -187,10 +88,11 @@ int main(int count_of_words, char **words)
 
     for (int round = 0; round < rounds; round++) {
         calls_choose(&generator);
-        if (expect(planted_is_found(), "the scan", "what was planted isn't found"))
+        if (expect(planted_is_found(), "the scan", "what was planted isn't found") ||
+            expect(apart_is_seen(), "the other keys", "a key that was planted apart isn't seen"))
             return 1;
         for (int i = 0; i < KEYED_CALLS; i++)
-            if (measure(&keyed_calls[i], call_alone, &bare[i]) || measure(&keyed_calls[i], call_and_wipe, &wiped[i]))
+            if (measure_bare(&keyed_calls[i], &bare[i]) || measure_wiped(&keyed_calls[i], &wiped[i]))
                 return 1;
     }
     print_table("after the call alone: bytes found", bare);

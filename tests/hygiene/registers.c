@@ -37,9 +37,11 @@ __asm__(".text\n"
 void registers_keep(void)
 {
     registers_keep_narrow();
-    if (__builtin_cpu_supports("avx512f"))
-        __asm__ volatile(".irp n, " ALL_WIDE "vmovups %%zmm\\n, 64*\\n(%0)\n.endr" ::"r"(registers_kept.wide)
-                         : "memory");
+    if (!__builtin_cpu_supports("avx512f"))
+        return;
+    __asm__ volatile(".irp n, " ALL_WIDE "vmovups %%zmm\\n, 64*\\n(%0)\n.endr" ::"r"(registers_kept.wide)
+                     : "memory");
+    memset(registers_kept.vector, 0, sizeof registers_kept.vector);
 }
 
 void registers_clear(void)
@@ -49,10 +51,20 @@ void registers_clear(void)
         __asm__ volatile(".irp n, " ALL_WIDE "vpxorq %zmm\\n, %zmm\\n, %zmm\\n\n.endr");
 }
 
+void registers_plant(const uint8_t *bytes)
+{
+    __asm__ volatile("movups (%0), %%xmm7" ::"r"(bytes) : "xmm7");
+}
+
 #else
 
 void registers_keep(void)
 {
+}
+
+void registers_plant(const uint8_t *bytes)
+{
+    (void)bytes;
 }
 
 void registers_clear(void)

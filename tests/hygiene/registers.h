@@ -14,7 +14,7 @@ enum { REGISTERS_SEEN = 0 };
 
 struct registers {
     uint64_t narrow[9];     /* rax, rcx, rdx, rsi, rdi, r8 to r11 */
-    uint8_t vector[16][16]; /* xmm0 to xmm15 */
+    uint8_t vector[16][16]; /* xmm0 to xmm15, zeros where there are wide ones */
     uint8_t wide[32][64];   /* zmm0 to zmm31, zeros where the processor has none */
 };
 
@@ -25,5 +25,8 @@ void registers_keep(void);
 
 /* Forgets what was stored, and clears the vector registers, so that what is found next is the next call's. */
 void registers_clear(void);
+
+/* Leaves 16 bytes in a register, to see that they are found. */
+void registers_plant(const uint8_t *bytes);
 
 #endif

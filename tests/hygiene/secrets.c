@@ -117,7 +117,7 @@ void secrets_look(const uint8_t *bytes, size_t count, size_t part)
 
 struct found secrets_found(void)
 {
-    struct found found = {{0}};
+    struct found found = {{0}, 0};
 
     for (int secret = 0; secret < SECRETS; secret++)
         for (size_t i = 0; i < MOST_SECRET; i++)

@@ -10,9 +10,11 @@ enum secret { THE_KEY, OTHER_KEYS, KEY_AS_TEXT, MODE_KEY, MODE_VALUE, SCHEDULE, 
 
 extern const char *const secret_names[SECRETS];
 
-/* How many different bytes of each secret were found. */
+/* How many different bytes of each secret were found; and how many bytes are others after the same call with other keys,
+   which no search counts: it sees what depends on a key, in whatever form and however far apart. */
 struct found {
     size_t bytes[SECRETS];
+    size_t by_key;
 };
 
 /* Forgets what was looked for before. */

@@ -1,3 +1,5 @@
+#define _GNU_SOURCE /* the names of a context's registers */
+
 #include "stack.h"
 
 #include <string.h>
@@ -18,6 +20,18 @@ static void run_work(void)
     __asm__ volatile("");
 }
 
+/* What the work saves of its caller's registers is then the same in each run, and no address of ours. */
+static void forget_registers(ucontext_t *context)
+{
+#if defined(__x86_64__)
+    greg_t *all = context->uc_mcontext.gregs;
+
+    all[REG_RBX] = all[REG_RBP] = all[REG_R12] = all[REG_R13] = all[REG_R14] = all[REG_R15] = 0;
+#else
+    (void)context;
+#endif
+}
+
 struct stack_left stack_run(void (*work)(void))
 {
     struct stack_left left;
@@ -26,6 +40,7 @@ struct stack_left stack_run(void (*work)(void))
     memset(stack, PAINT, sizeof stack);
     present_work = work;
     getcontext(&inside);
+    forget_registers(&inside);
     inside.uc_stack.ss_sp = stack;
     inside.uc_stack.ss_size = sizeof stack;
     inside.uc_link = &outside;
@@ -36,4 +51,9 @@ struct stack_left stack_run(void (*work)(void))
     left.bytes = stack + low;
     left.count = (size_t)(caller - left.bytes);
     return left;
+}
+
+struct stack_left stack_all(void)
+{
+    return (struct stack_left){stack, (size_t)(caller - stack)};
 }

@@ -15,4 +15,7 @@ struct stack_left {
 /* Paints the stack and runs `work` on it. */
 struct stack_left stack_run(void (*work)(void));
 
+/* All of the stack below the caller, with what is still painted. */
+struct stack_left stack_all(void);
+
 #endif

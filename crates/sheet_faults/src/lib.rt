@@ -12,6 +12,7 @@ use lines::index_of;
 use lines::piece_length;
 ghost use mathlib.Core.Path.{_≡_};
 ghost use Prim.Native.Nat.{_+_, _<_, _≤_};
+ghost use lib.Dec.{eqb};
 ghost use lib.ListN.{length, drop};
 ghost use Rattle.laws.specs.Choice.{pick};
 ghost use Rattle.writing.specs.Text.{lf};
@@ -124,6 +125,13 @@ pub fn in_order(text: &[u8]) -> bool
     true
 }
 
+// Does a name that the form has stand in one line, or any other in none?
+fn is_named_right(text: &[u8], two: bool, k: usize) -> bool
+    ensures { λ r. ⌜ r ≡ eqb (timesNamed k (linesOf (now (text .entry)))) (pick (hasName two k) 1 0) ⌝ }
+{
+    times_named(text, k) == one_if(has_name(two, k))
+}
+
 // Is no name missing, doubled, or unknown for the form?
 fn names_right(text: &[u8]) -> bool
     ensures { λ r. ⌜ r ≡ namesRight (linesOf (now (text .entry))) ⌝ }
@@ -131,7 +139,7 @@ fn names_right(text: &[u8]) -> bool
     let two = is_form_two(text);
     let mut k = 0;
     while k <= names::NAMES {
-        if times_named(text, k) != one_if(has_name(two, k)) {
+        if !is_named_right(text, two, k) {
             return false;
         }
         k += 1;

@@ -1,5 +1,5 @@
 -- A loop that tests the slots of a list, the first one first: its states, what falls from one to the next, and what it leaves. Assumes nothing.
-use mathlib.Core.Bool.{Bool, true, false, _&&_, _||_, not, and-true, or-false, or-assoc}
+use mathlib.Core.Bool.{Bool, true, false, _&&_, _||_, not, or-false, or-assoc}
 use mathlib.Core.List.{List}
 use mathlib.Core.Path.{_≡_, refl, sym, ap, _∙_}
 use mathlib.Core.WellFounded.{WellFounded, InvImage·wf}
@@ -9,7 +9,7 @@ use lib.Dec.{T as Holds}
 use lib.ListN.{length, getD, drop}
 use lib.WfN.{Nat·lt-wfRel}
 use Rattle.slots.specs.declared.Slot.{Slot}
-use Rattle.slots.specs.Slots.{nil, isNoFields, allZero, isEmpty, isFilled, isBad, hasBad}
+use Rattle.slots.specs.Slots.{nil, isEmpty, isFilled, isBad, hasBad}
 use Rattle.slots.proofs.Tables.{bad-next, bad-none}
 
 pub record Turn (ys : List Slot) : Type 0 where
@@ -39,14 +39,23 @@ onward {ys} t h l = record {
 pub all-tested : {ys : List Slot} (t : Turn ys) → t .i ≡ 32 → length ys ≡ 32 → t .bad ≡ hasBad ys
 all-tested {ys} t e l = sym (or-false (t .bad)) ∙ ap (λ (b : Bool). t .bad || b) (sym (bad-none ys (t .i) (omega (arith, e, l)))) ∙ t .so
 
--- a slot that shows a field is bad unless it is filled, whatever its key is
-pub shown-bad : (bad : Bool) (s : Slot) → Holds (not (isNoFields (s .fields))) → (bad || not (isFilled s)) ≡ (bad || isBad s)
-unfolding isBad isEmpty
-shown-bad bad s h = ap (λ (b : Bool). bad || b) (go (isNoFields (s .fields)) h)
+-- a slot that is not filled is bad unless it is empty; one that is filled is not bad, whatever its key is
+
+pub unfilled-bad : (bad : Bool) (s : Slot) → Holds (not (isFilled s)) → (bad || not (isEmpty s)) ≡ (bad || isBad s)
+unfolding isBad
+unfilled-bad bad s h = ap (λ (b : Bool). bad || b) (go (isFilled s) h)
   where
-    go : (none : Bool) → Holds (not none) → not (isFilled s) ≡ (not (isFilled s) && not (none && allZero (s .key)))
+    go : (filled : Bool) → Holds (not filled) → not (isEmpty s) ≡ (not filled && not (isEmpty s))
     go true h = absurd h
-    go false h = sym (and-true (not (isFilled s)))
+    go false h = refl
+
+pub filled-kept : (bad : Bool) (s : Slot) → Holds (not (not (isFilled s))) → bad ≡ (bad || isBad s)
+unfolding isBad
+filled-kept bad s h = sym (or-false bad) ∙ ap (λ (b : Bool). bad || b) (go (isFilled s) h)
+  where
+    go : (filled : Bool) → Holds (not (not filled)) → false ≡ (not filled && not (isEmpty s))
+    go true h = refl
+    go false h = absurd h
 
 -- a test that is asked before another one
 

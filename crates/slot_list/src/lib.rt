@@ -2,26 +2,27 @@
 // asked for is copied with its key.
 ghost use mathlib.Core.Path.{_≡_};
 ghost use mathlib.Core.Bool.{_||_, not};
-ghost use Rattle.slots.specs.Slots.{isFilled, isBad};
+ghost use Rattle.slots.specs.Slots.{isFilled, isEmpty};
 ghost use Rattle.slot_list.specs.List.{isNoTable, placeOf, fieldsIn, slotIn, placeTo, putIn};
 use fields::Fields;
 use slot_calls::Put;
 use slots::Slot;
 
-fn or_bad(bad: bool, slot: Slot) -> bool
-    ensures { λ r. ⌜ r ≡ bad || isBad slot ⌝ }
+fn is_unfilled(slot: Slot) -> bool
+    ensures { λ r. ⌜ r ≡ not (isFilled slot) ⌝ }
 {
-    bad || slots::is_bad(slot)
+    !slots::is_filled(slot)
 }
 
-fn or_unfilled(bad: bool, slot: Slot) -> bool
-    ensures { λ r. ⌜ r ≡ bad || not (isFilled slot) ⌝ }
+fn or_not_empty(bad: bool, slot: Slot) -> bool
+    ensures { λ r. ⌜ r ≡ bad || not (isEmpty slot) ⌝ }
 {
-    bad || !slots::is_filled(slot)
+    bad || !slots::is_empty(slot)
 }
 
 // Whether the lent records are no table: there is another number of them than 32, or one is neither empty nor filled.
-// A key is read only where every field of its slot is zero: so no key of a filled slot is left behind by the test.
+// A key is read only where every field of its slot is zero: so no key of a filled slot is left behind by the test. Most slots are filled, or their
+// algorithm is none: so that is asked first.
 pub fn is_no_table(t: &[Slot]) -> bool
     ensures { λ r. ⌜ r ≡ isNoTable (now (t .entry)) ⌝ }
 {
@@ -30,11 +31,8 @@ pub fn is_no_table(t: &[Slot]) -> bool
         bad = false;
         let mut i: usize = 0;
         while i < 32 {
-            if slots::has_no_fields(t[i]) {
-                let worse = or_bad(bad, t[i]);
-                bad = worse;
-            } else {
-                let worse = or_unfilled(bad, t[i]);
+            if is_unfilled(t[i]) {
+                let worse = or_not_empty(bad, t[i]);
                 bad = worse;
             }
             i += 1;

@@ -64,14 +64,6 @@ pub fn is_no_fields(f: Fields) -> bool
     (f.version | f.mcc | f.mnc) == 0 && (f.algorithm | f.usage | f.side | f.place) == 0
 }
 
-// Whether a slot shows nothing. Where it shows a field, its key has no say in what it is.
-pub fn has_no_fields(slot: Slot) -> bool
-    ensures { λ r. ⌜ r ≡ isNoFields (slot .fields) ⌝ }
-{
-    let f = slot.fields;
-    is_no_fields(f)
-}
-
 // No branch on a byte: quick, and the same work for every key.
 fn all_zero(key: [u8; 24]) -> bool
     ensures { λ r. ⌜ r ≡ allZero key ⌝ }
@@ -86,7 +78,7 @@ fn all_zero(key: [u8; 24]) -> bool
 }
 
 // The key is looked at only where every field is zero.
-fn is_empty(slot: Slot) -> bool
+pub fn is_empty(slot: Slot) -> bool
     ensures { λ r. ⌜ r ≡ isEmpty slot ⌝ }
 {
     let f = slot.fields;

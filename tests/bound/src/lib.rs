@@ -40,9 +40,12 @@ fn asked(algorithm: u64, place: u64) -> Asked {
 /// As for the crate.
 #[no_mangle]
 pub unsafe extern "C" fn bound_take(table: *const Slot) -> u8 {
+    let mut held = TABLE.lock().unwrap();
+    // The old one goes first: so the new one stands where it stood, and two runs of a call have one heap.
+    *held = None;
     match Table::try_from(from_raw_parts(table, SLOTS)) {
         Ok(taken) => {
-            *TABLE.lock().unwrap() = Some(taken);
+            *held = Some(taken);
             0
         }
         Err(refusal) => refusal.number(),

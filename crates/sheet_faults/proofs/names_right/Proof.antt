@@ -4,9 +4,9 @@ use mathlib.Core.Bool.{Bool}
 use Prim.Native.Nat.{_-_, _+_}
 use native.Mathlib.Omega.{arith}
 use borrow.Author.Needs.{needs}
-use Rattle.laws.specs.Choice.{pick}
-use Rattle.line_faults.specs.Names.{nameCount, hasName}
-use Rattle.sheet_faults.specs.Sheet.{linesOf, timesNamed, namesRightFrom, namesRight}
+use borrow.Author.Tests.{eqb-true, eqb-false, not-true, not-false}
+use Rattle.line_faults.specs.Names.{nameCount}
+use Rattle.sheet_faults.specs.Sheet.{linesOf, namesRightFrom, namesRight}
 use Rattle.sheet_faults.proofs.Lines.{names-on, names-wrong, names-all}
 use Rattle.sheet_faults.proofs.names_right.Statement.{statement}
 use Rattle.sheet_faults.proofs.names_right.Tie as tie
@@ -24,19 +24,17 @@ loop-holds c =
 
 returns : tie.Need-returns Inv-loop μ-loop
 returns c =
-    let names = c .before .before in
-    let test = names .before .before in
+    let name = c .before in
+    let test = name .before in
     sym (test .before .loop .inv
-    ∙ names-wrong _ _ _ (omega (arith, test .loop-test .taken))
-    (λ e. c .if1 .taken (names .before .times-named .ensures ∙ e ∙ sym (c .before .one-if .ensures ∙ ap (λ (t : Bool). pick t 1 0) (names .has-name .ensures)))))
+    ∙ names-wrong _ _ _ (omega (arith, test .loop-test .taken)) (eqb-false _ _ (sym (name .is-named-right .ensures) ∙ not-true _ (c .if1 .taken))))
 
 loop-again : tie.Need-loop-again Inv-loop μ-loop
 loop-again c =
-    let names = c .before .before in
-    let test = names .before .before in
+    let name = c .before in
+    let test = name .before in
     test .before .loop .inv
-    ∙ names-on _ _ _ (omega (arith, test .loop-test .taken))
-    (sym (names .before .times-named .ensures) ∙ c .if1 .left ∙ c .before .one-if .ensures ∙ ap (λ (t : Bool). pick t 1 0) (names .has-name .ensures))
+    ∙ names-on _ _ _ (omega (arith, test .loop-test .taken)) (eqb-true _ _ (sym (name .is-named-right .ensures) ∙ not-false _ (c .if1 .left)))
 
 returns-2 : tie.Need-returns-2 Inv-loop μ-loop
 returns-2 c = sym (c .before .loop .inv ∙ names-all _ _ _ (omega (arith, c .loop-test .left)))
@@ -49,8 +47,6 @@ names-right-spec =
     μ-loop
     (λ c κs. search needs)
     loop-holds
-    (λ c κs. search needs)
-    (λ c κs. search needs)
     (λ c κs. search needs)
     returns
     (λ c. search needs)
