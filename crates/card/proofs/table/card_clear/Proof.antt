@@ -104,5 +104,5 @@ card-clear-spec 𝓤 H 𝓜 𝓖 𝓡 =
     (meets 𝓤 H (𝓖 .A) (givenOf 𝓤 H 𝓜 𝓖) (𝓜 .mem) (𝓡 .run) (tablesOf 𝓤 H 𝓜 (tables 𝓤 H 𝓜 𝓡 code.env))
     (cited 𝓤 H (IsNoTable 𝓤 H (𝓖 .A) (𝓜 .mem) (𝓡 .run)) 𝓜 𝓡 code.env #is-no-table is-no-table-def.routine code.calls-slot-list·is-no-table (is-no-table-thm.met 𝓤 H 𝓜 𝓖 𝓡))
     (cited 𝓤 H (FieldsIn 𝓤 H (𝓖 .A) (𝓜 .mem) (𝓡 .run)) 𝓜 𝓡 code.env #fields-in fields-in-def.routine code.calls-slot-list·fields-in (fields-in-thm.met 𝓤 H 𝓜 𝓖 𝓡))
-    (cited 𝓤 H (Core 𝓤 H (𝓖 .A) (𝓜 .mem) (𝓡 .run)) 𝓜 𝓡 code.env #core core-def.routine code.calls-slots·clear-of (core-thm.met 𝓤 H 𝓜 𝓖 𝓡))
+    (cited 𝓤 H (Core 𝓤 H (𝓖 .A) (𝓜 .mem) (𝓡 .run)) 𝓜 𝓡 code.env #core core-def.routine code.calls-slot-calls·clear-of (core-thm.met 𝓤 H 𝓜 𝓖 𝓡))
     (cited 𝓤 H (PutSlot 𝓤 H (𝓖 .A) (𝓜 .mem) (𝓡 .run)) 𝓜 𝓡 code.env #put-slot put-slot-def.routine code.calls-slot-list·put-slot (put-slot-thm.met 𝓤 H 𝓜 𝓖 𝓡)))

@@ -242,6 +242,6 @@ card-traffic-spec 𝓤 H 𝓜 𝓖 𝓡 =
     (cited 𝓤 H (IsNoTable 𝓤 H (𝓖 .A) (𝓜 .mem) (𝓡 .run)) 𝓜 𝓡 code.env #is-no-table is-no-table-def.routine code.calls-slot-list·is-no-table (is-no-table-thm.met 𝓤 H 𝓜 𝓖 𝓡))
     (cited 𝓤 H (FieldsIn 𝓤 H (𝓖 .A) (𝓜 .mem) (𝓡 .run)) 𝓜 𝓡 code.env #fields-in fields-in-def.routine code.calls-slot-list·fields-in (fields-in-thm.met 𝓤 H 𝓜 𝓖 𝓡))
     (cited 𝓤 H (Judge 𝓤 H (𝓖 .A) (𝓜 .mem) (𝓡 .run)) 𝓜 𝓡 code.env #judge judge-def.routine code.calls-traffic·traffic-refusal (judge-thm.met 𝓤 H 𝓜 𝓖 𝓡))
-    (cited 𝓤 H (Key 𝓤 H (𝓖 .A) (𝓜 .mem) (𝓡 .run)) 𝓜 𝓡 code.env #key-slot key-def.routine code.calls-slots·key-slot (key-thm.met 𝓤 H 𝓜 𝓖 𝓡))
+    (cited 𝓤 H (Key 𝓤 H (𝓖 .A) (𝓜 .mem) (𝓡 .run)) 𝓜 𝓡 code.env #key-slot key-def.routine code.calls-slot-calls·key-slot (key-thm.met 𝓤 H 𝓜 𝓖 𝓡))
     (cited 𝓤 H (SlotIn 𝓤 H (𝓖 .A) (𝓜 .mem) (𝓡 .run)) 𝓜 𝓡 code.env #slot-in slot-in-def.routine code.calls-slot-list·slot-in (slot-in-thm.met 𝓤 H 𝓜 𝓖 𝓡))
     (cited 𝓤 H (Core 𝓤 H (𝓖 .A) (𝓜 .mem) (𝓡 .run)) 𝓜 𝓡 code.env #core core-def.routine code.calls-card·table·traffic-from (core-thm.met 𝓤 H 𝓜 𝓖 𝓡)))
