@@ -1,6 +1,8 @@
 /* What card_converted leaves of keys on the stack, before and after card_wipe_stack (docs/KEY-HYGIENE.md).
    Usage: left SEED COUNT */
 
+#define _GNU_SOURCE
+
 #include <inttypes.h>
 #include <stdio.h>
 #include <stdlib.h>
