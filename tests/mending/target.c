@@ -7,25 +7,12 @@
 
 int LLVMFuzzerTestOneInput(const uint8_t *text, size_t bytes);
 
-/* What libFuzzer counts beside the code that it sees, since the proved code isn't instrumented: the answers, the length of
-   what is mended, the changes by their length, and how many lines begin with a name. */
+/* What libFuzzer counts beside the code that it sees, since the proved code isn't instrumented: the answers with the length of
+   what is mended, and the changes by their length. */
 static struct {
     uint8_t answers[3][32];
     uint8_t changes[128];
-    uint8_t names[16][16];
 } counters __attribute__((section("__libfuzzer_extra_counters")));
-
-static void count_names(const uint8_t *text, size_t bytes)
-{
-    static const char *const names[] = {"form",  "number", "version", "alg", "use",
-                                        "side", "place",  "mcc",     "mnc", "key"};
-
-    for (size_t i = 0; i < sizeof names / sizeof names[0]; i++) {
-        const uint8_t *found = memmem(text, bytes, names[i], strlen(names[i]));
-
-        counters.names[i][found == NULL ? 0 : 1 + (size_t)(found - text) / 16 % 15]++;
-    }
-}
 
 int LLVMFuzzerTestOneInput(const uint8_t *text, size_t bytes)
 {
@@ -35,7 +22,6 @@ int LLVMFuzzerTestOneInput(const uint8_t *text, size_t bytes)
     compare_place("an input of bytes", bytes);
     answer = compare_text(text, bytes);
     changes = memmem(answer->out, answer->written, "changed=", 8);
-    count_names(text, bytes);
     counters.answers[answer->refusal == CARD_DONE ? 0 : answer->refusal - 24][answer->written % 32]++;
     if (changes != NULL)
         counters.changes[(answer->written - (size_t)(changes - answer->out)) % 128]++;
