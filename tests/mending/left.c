@@ -59,8 +59,10 @@ int main(void)
     struct stack_left left;
     int fault = 0;
 
+    text_bytes = sizeof text - 1;
     for (size_t i = 0; i < sizeof key; i++)
         sscanf(lower + 2 * i, "%2hhx", &key[i]);
+    mend(); /* what memcpy takes when it is first looked up isn't the call's */
     for (int refused = 0; refused <= 1; refused++) {
         text_bytes = sizeof text - 1 - (size_t)refused; /* without its last LF it is refused */
         left = stack_run(mend);
