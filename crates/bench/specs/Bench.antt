@@ -7,7 +7,8 @@ use lib.ListN.{length}
 use Rattle.laws.specs.Choice.{pick}
 use Rattle.refusals.specs.Numbers.{done, algorithmUnknown, benchKeyNot24, ivNot10, refuse}
 use Rattle.fields.specs.Fields.{isAlgorithm}
-use Rattle.span.specs.Span.{written, blocksUsed}
+use Rattle.span.specs.Span.{written}
+use Rattle.block_counts.specs.Counts.{blocksUsed}
 use Rattle.keystream.specs.Stream.{keystream}
 use Rattle.ciphering.specs.Span.{spanRefusal, Ciphered, cipheredAs}
 

@@ -2,7 +2,8 @@
 ghost use mathlib.Core.Path.{_≡_};
 ghost use Prim.Native.Nat.{_*_, _≤_};
 ghost use lib.ListN.{length};
-ghost use Rattle.span.specs.Span.{longestBuffer, longestStream, written, blocksUsed};
+ghost use Rattle.span.specs.Span.{longestBuffer, longestStream, written};
+ghost use Rattle.block_counts.specs.Counts.{blocksUsed};
 ghost use Rattle.keystream.specs.Stream.{keystream};
 ghost use Rattle.bench.specs.Bench.{keyedRefusal, benchRefusal, benchBlocks, benchAnswer};
 ghost use Rattle.ciphering.specs.Span.{cipheredAs, schedulesFor};

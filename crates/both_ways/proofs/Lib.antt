@@ -1,6 +1,7 @@
-pub mod Sums
+pub mod Blocks
 pub mod Columns
+pub mod Inverse
+pub mod Rounds
 pub mod SBoxes
 pub mod Steps
-pub mod Rounds
-pub mod Blocks
+pub mod Sums

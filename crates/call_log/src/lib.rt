@@ -58,7 +58,7 @@ fn end_line(m: Month, figures: &mut [u64]) -> Month
     if !is_sound(c) {
         return stopped(m.line);
     }
-    logged_calls::add(figures, c);
+    log_figures::add(figures, c);
     line_start(m.line + 1)
 }
 

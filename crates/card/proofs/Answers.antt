@@ -4,7 +4,7 @@ use mathlib.Core.List.{List}
 use Prim.Native.Nat.{ℕ}
 use Rattle.slots.specs.declared.Slot.{Slot}
 use Rattle.slot_calls.specs.declared.Changed.{Changed}
-use Rattle.card.specs.Table.{changedAs}
+use Rattle.faces.specs.Faces.{changedAs}
 
 pub changed-is : (c : Changed) {r : ℕ} {t : List Slot} → (r ≡ c .refusal) × (t ≡ c .table) → changedAs r t ≡ c
 changed-is c e = λ i. changedAs (e .0 i) (e .1 i)

@@ -31,15 +31,3 @@ trafficAnswerIn t direction number iv buf start n skip = trafficAnswerOf (isNoTa
 
 abbrev pub wholeAnswerIn : List Slot → ℕ → ℕ → List ℕ → List ℕ → Pdu → Ciphered
 wholeAnswerIn t direction number iv buf u = wholeAnswerOf (isNoTable t) (slotAt t number) direction number iv buf u
-
--- the answers, part by part as their caller has them
-
-abbrev pub changedAs : ℕ → List Slot → Changed
-changedAs refusal table = record { refusal = refusal; table = table }
-
-abbrev pub shownAs : ℕ → ℕ → ℕ → ℕ → ℕ → ℕ → ℕ → ℕ → ℕ → Shown
-shownAs refusal number version algorithm usage side place mcc mnc = record {
-  refusal = refusal;
-  number = number;
-  fields = record { version = version; algorithm = algorithm; usage = usage; side = side; place = place; mcc = mcc; mnc = mnc };
-}

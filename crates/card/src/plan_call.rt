@@ -1,7 +1,7 @@
 // The plan of a direct mode PDU, for C.
 ghost use mathlib.Core.Path.{_≡_};
 ghost use Rattle.plan.specs.Plan.{planOf};
-ghost use Rattle.card.specs.Faces.{plannedAs, plannedOut};
+ghost use Rattle.faces.specs.Faces.{plannedAs, plannedOut};
 
 // Leaves start, length and skip of the first piece and of the second in `pieces`; zeros where there is none, and on a refusal.
 #[no_mangle]
@@ -17,8 +17,6 @@ pub extern "C" fn card_plan(
     ensures { λ r. ⌜ plannedAs r (now (pieces .exit)) ≡ plannedOut (planOf kind state flag length address sdu) ⌝ }
 {
     let p = plan::plan_pdu(kind, state, flag, length, address, sdu);
-    let a = p.first;
-    let b = p.second;
-    *pieces = [a.start, a.length, a.skip, b.start, b.length, b.skip];
+    *pieces = faces::piece_numbers(p);
     p.refusal
 }

@@ -1,8 +1,9 @@
 // Key records as text, for C.
 ghost use mathlib.Core.Path.{_≡_};
 ghost use Rattle.record_reader.specs.Record.{recordRead};
-ghost use Rattle.card.specs.Faces.{asking, readAs, readOut, writtenAs, writtenOut};
-use fields::Asked;
+ghost use Rattle.faces.specs.Faces.{asking, readAs, readOut, writtenAs, writtenOut};
+use faces::asked_for;
+use faces::shown_numbers;
 
 // Reads one record from the front of a text: leaves its number and fields in `shown`, its key in `key`, and how many bytes it took in
 // `used`. On refusal 15 `line` and `column` say where the first byte stands at which no good record goes on, and zeros are left elsewhere.
@@ -19,18 +20,8 @@ pub extern "C" fn card_record_read(
         ≡ readOut (recordRead (now (text .entry))) ⌝ }
 {
     let r = record_reader::read_record(text);
-    let f = r.fields;
     let k = r.key;
-    *shown = [
-        r.number,
-        f.version as u64,
-        f.algorithm as u64,
-        f.usage as u64,
-        f.side as u64,
-        f.place as u64,
-        f.mcc as u64,
-        f.mnc as u64,
-    ];
+    *shown = shown_numbers(r.number, r.fields);
     *key = k;
     *used = r.used;
     *line = r.line;
@@ -56,15 +47,7 @@ pub extern "C" fn card_record_write(
     ensures { λ r. ⌜ writtenAs r (now (length .exit)) (now (buf .exit))
         ≡ writtenOut number (asking version algorithm usage side place mcc mnc) (now (key .entry)) (now (buf .entry)) ⌝ }
 {
-    let asked = Asked {
-        version,
-        algorithm,
-        usage,
-        side,
-        place,
-        mcc,
-        mnc,
-    };
+    let asked = asked_for(version, algorithm, usage, side, place, mcc, mnc);
     let w = record_writer::write_record(number, asked, *key, buf);
     *length = w.length;
     w.refusal

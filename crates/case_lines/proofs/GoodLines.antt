@@ -17,10 +17,10 @@ use Rattle.forms.proofs.Decimals.{between-is}
 use Rattle.forms.proofs.Hexes.{digit-is-hex, value-of-digit}
 use Rattle.writing.proofs.Puts.{length-hex}
 use Rattle.lines.specs.Line.{space, indexOf, upTo, pieceLength, afterSpaces, part}
-use Rattle.lines.specs.Parts.{goodNumber, numberOf, allHex, areBytes, bytesOf}
+use Rattle.line_values.specs.Parts.{goodNumber, numberOf, allHex, areBytes, bytesOf}
 use Rattle.case_reader.specs.Case.{Case, joined, caseLine, SomeBytes, GoodCase, lastPart, numbersReadable, isReadable, caseOf}
-use Rattle.lines.proofs.Digits.{number-read}
-use Rattle.lines.proofs.Hexes.{length-bytes}
+use Rattle.line_values.proofs.Digits.{number-read}
+use Rattle.line_values.proofs.Hexes.{length-bytes}
 use Rattle.case_lines.proofs.Promises.{hex-first, hex-second}
 
 -- digits of either kind are hex digits

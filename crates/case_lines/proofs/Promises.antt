@@ -17,10 +17,10 @@ use Rattle.forms.specs.Hexes.{hexValue}
 use Rattle.forms.proofs.Hexes.{value-small, digit-of-value}
 use Rattle.writing.proofs.Puts.{length-hex}
 use Rattle.lines.specs.Line.{afterSpaces, part}
-use Rattle.lines.specs.Parts.{numberOf, areBytes, bytesOf}
+use Rattle.line_values.specs.Parts.{numberOf, areBytes, bytesOf}
 use Rattle.case_reader.specs.Case.{joined, caseLine, Narrow, SomeBytes, GoodCase, lastPart, isNumber, numbersReadable, isReadable, caseOf}
-use Rattle.lines.proofs.Digits.{number-text}
-use Rattle.lines.proofs.Hexes.{even, digit-at, length-bytes}
+use Rattle.line_values.proofs.Digits.{number-text}
+use Rattle.line_values.proofs.Hexes.{even, digit-at, length-bytes}
 use Rattle.case_reader.proofs.Passed.{key-readable, iv-readable, buffer-readable}
 use Rattle.lines.proofs.Pieces.{cut-at, some-before}
 

@@ -9,9 +9,9 @@ use Rattle.span.specs.Span.{longestBuffer}
 use Rattle.laws.proofs.Cases.{and-left, and-right}
 use Rattle.bench.proofs.Passed.{KeyedPassed, keyed-passed}
 use Rattle.lines.specs.Line.{part}
-use Rattle.lines.specs.Parts.{areBytes}
+use Rattle.line_values.specs.Parts.{areBytes}
 use Rattle.case_reader.specs.Case.{Case, lastPart, numbersReadable, isReadable, caseOf, Accepted}
-use Rattle.lines.proofs.Hexes.{length-bytes}
+use Rattle.line_values.proofs.Hexes.{length-bytes}
 
 -- a readable line's bytes are bytes
 module _ (line : List ℕ) (e : isReadable line ≡ true) where

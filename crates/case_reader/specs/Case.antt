@@ -10,7 +10,7 @@ use Rattle.refusals.specs.Numbers.{done}
 use Rattle.writing.specs.Text.{digits, hexText}
 use Rattle.bench.specs.Bench.{keyedRefusal}
 use Rattle.lines.specs.Line.{space, afterSpaces, part}
-use Rattle.lines.specs.Parts.{largest, numberOf, areBytes, bytesOf}
+use Rattle.line_values.specs.Parts.{largest, numberOf, areBytes, bytesOf}
 
 -- in the order of the parts; `bits` is the length
 pub record Case : Type 0 where

@@ -1,16 +1,16 @@
 // A case by its line: algorithm, key, initial value, start, length, skip and buffer.
 use bench::keyed_refusal;
+use line_values::bytes::are_bytes;
+use line_values::bytes::read_bytes;
+use line_values::number::read_number;
 use lines::after_spaces;
-use lines::bytes::are_bytes;
-use lines::bytes::read_bytes;
-use lines::number::read_number;
 use lines::part;
 ghost use mathlib.Core.Bool.{_&&_};
 ghost use mathlib.Core.Path.{_≡_};
 ghost use Prim.Native.Nat.{_/_};
 ghost use lib.ListN.{length};
 ghost use Rattle.lines.specs.Line.{part};
-ghost use Rattle.lines.specs.Parts.{numberOf, areBytes};
+ghost use Rattle.line_values.specs.Parts.{numberOf, areBytes};
 ghost use Rattle.case_reader.specs.Case.{isNumber, lastPart, numbersReadable, bytesReadable, isReadable, caseOf, refusalOf, Accepted};
 
 fn is_number(line: &[u8], k: usize) -> bool

@@ -2,7 +2,8 @@
 ghost use mathlib.Core.Path.{_≡_};
 ghost use Prim.Native.Nat.{_≤_};
 ghost use lib.ListN.{length};
-ghost use Rattle.span.specs.Span.{longestBuffer, blocksUsed};
+ghost use Rattle.span.specs.Span.{longestBuffer};
+ghost use Rattle.block_counts.specs.Counts.{blocksUsed};
 ghost use Rattle.keystream.specs.Stream.{keystream};
 ghost use Rattle.keystream.specs.Work.{Fits, throughRun};
 use keystream::Run;

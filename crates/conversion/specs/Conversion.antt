@@ -9,7 +9,7 @@ use Rattle.refusals.specs.Numbers.{done, conversionTextBad, pairListBad, pairDi
 use Rattle.slots.specs.declared.Slot.{Slot}
 use Rattle.gathering.specs.Gathering.{gathered}
 use Rattle.conversion.specs.declared.Checked.{Checked}
-use Rattle.conversion.specs.Pairs.{pairCount, mostPairs, firstMisnaming, firstDiffering, leavesOut}
+use Rattle.conversion_pairs.specs.Pairs.{pairCount, mostPairs, firstMisnaming, firstDiffering, leavesOut}
 
 -- a refusal, and the place of the pair that it names, counted from 1; 0 where it names none
 abbrev pub checkedAs : ℕ → ℕ → Checked

@@ -1,12 +1,10 @@
 // Does somebody else's conversion of records give no right more? (document 02, [11]) Reads both texts, and loads nothing.
-pub mod pairs;
-
+use conversion_pairs::DIFFERING;
+use conversion_pairs::MISNAMING;
+use conversion_pairs::first_faulty;
+use conversion_pairs::leaves_out;
+use conversion_pairs::pair_count;
 use gathering::gather;
-use pairs::DIFFERING;
-use pairs::MISNAMING;
-use pairs::first_faulty;
-use pairs::leaves_out;
-use pairs::pair_count;
 use slots::Slot;
 ghost use mathlib.Core.Path.{_≡_};
 ghost use Rattle.conversion.specs.Conversion.{checkedAs, namesChecked, rightsChecked, firstly, pairsChecked, conversionChecked};

@@ -8,7 +8,7 @@ use Rattle.refusals.specs.Numbers.{done, conversionTextBad}
 use Rattle.writing.specs.Text.{digits, item, lineText}
 use Rattle.writing.specs.Writing.{atFront}
 use Rattle.conversion.specs.declared.Checked.{Checked}
-use Rattle.conversion.specs.Pairs.{pairCount}
+use Rattle.conversion_pairs.specs.Pairs.{pairCount}
 use Rattle.conversion.specs.Conversion.{checkedAs, conversionChecked}
 use Rattle.conversion_sheet.specs.declared.Report.{Report}
 use Rattle.conversion_sheet.specs.Input.{firstText, behind, pairNumbers}

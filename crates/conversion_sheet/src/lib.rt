@@ -3,7 +3,7 @@ mod input;
 
 use conversion::Checked;
 use conversion::check;
-use conversion::pairs::pair_count;
+use conversion_pairs::pair_count;
 use input::behind_text;
 use input::read_pairs;
 use input::text_size;

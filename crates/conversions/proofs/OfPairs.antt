@@ -18,9 +18,9 @@ use Rattle.slot_calls.specs.Seen.{slotAs}
 use Rattle.record_reader.specs.Record.{Entry}
 use Rattle.agreement.specs.Agreement.{agrees}
 use Rattle.conversion.specs.declared.Checked.{Checked}
-use Rattle.conversion.specs.Pairs.{pairCount, numberOn, misnamesOn, misnames, differs, firstFaulty, firstMisnaming, firstDiffering, leavesOut}
+use Rattle.conversion_pairs.specs.Pairs.{pairCount, numberOn, misnamesOn, misnames, differs, firstFaulty, firstMisnaming, firstDiffering, leavesOut}
 use Rattle.conversion.specs.Conversion.{checkedAs, passes, naming, firstly, namesChecked, rightsChecked, pairsChecked}
-use Rattle.conversions.specs.Conforms.{In, Known, Pair, Agree, Numbered, Joins, Stands, Conforms, pairsOf}
+use Rattle.conversions.specs.Conforms.{In, Known, Pair, AlikeEntries, Numbered, Joins, Stands, Conforms, pairsOf}
 use Rattle.conversions.specs.Verdict.{pairAt, Misnames, before-missing, before-again, after-missing, after-again, Differs, First, Never, LeftOut}
 use Rattle.conversions.specs.Verdict.{OfPairs, too-many, misnamed, left-out, widened, conforming}
 use Rattle.conversions.proofs.Lists.{in-at, at-in, at-apart}
@@ -95,12 +95,12 @@ module _ (bs ns : List ℕ) (b : Known bs) (a : Known ns) (flat : List ℕ) wher
         ap (slotAs new) (after-is flat i ∙ sym (to .number)) ∙ known-holds ns a .stored (to .entry) (to .stands) in
         λ j. not (agrees (e j) (f j))
 
-    differs-no : differs old new flat i ≡ false → Agree (from .entry) (to .entry)
+    differs-no : differs old new flat i ≡ false → AlikeEntries (from .entry) (to .entry)
     differs-no e =
         agrees-is (from .entry) (to .entry) (known-size bs b (from .entry) (from .stands)) (known-size ns a (to .entry) (to .stands))
         (not-false _ (sym differs-by ∙ e))
 
-    differs-yes : differs old new flat i ≡ true → Agree (from .entry) (to .entry) → ⊥
+    differs-yes : differs old new flat i ≡ true → AlikeEntries (from .entry) (to .entry) → ⊥
     differs-yes e g = true≢false (sym (agree-passes (from .entry) (to .entry) g) ∙ not-true _ (sym differs-by ∙ e))
 
   -- the count

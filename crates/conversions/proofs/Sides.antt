@@ -14,8 +14,8 @@ use Rattle.slots.specs.declared.Slot.{Slot}
 use Rattle.slots.specs.Slots.{isFilled}
 use Rattle.record_reader.specs.Record.{Entry}
 use Rattle.agreement.specs.Agreement.{sameFields, sameBytes, sameKey, agrees}
-use Rattle.conversion.specs.Pairs.{numberOn, isThere, misnamesOn}
-use Rattle.conversions.specs.Conforms.{In, Agree, Numbered}
+use Rattle.conversion_pairs.specs.Pairs.{numberOn, isThere, misnamesOn}
+use Rattle.conversions.specs.Conforms.{In, AlikeEntries, Numbered}
 use Rattle.conversions.proofs.Tables.{slotOf, Holds}
 use Rattle.conversions.proofs.Tests.{either-of, last-or, named-yes, named-no}
 
@@ -35,7 +35,7 @@ bytes-same a b e zero = refl
 bytes-same a b e (suc n) = rw (bytes-same a b e n) (eq-eqb (getD a n 0) (getD b n 0) (ap (λ (l : List ℕ). getD l n 0) e))
 
 module _ (from to : Entry) where
-  pub agrees-is : length (from .key) ≡ 24 → length (to .key) ≡ 24 → agrees (slotOf from) (slotOf to) ≡ true → Agree from to
+  pub agrees-is : length (from .key) ≡ 24 → length (to .key) ≡ 24 → agrees (slotOf from) (slotOf to) ≡ true → AlikeEntries from to
   unfolding agrees sameFields
   agrees-is m n e =
       let f = from .fields in
@@ -57,7 +57,7 @@ module _ (from to : Entry) where
         usage = and-right (sameKey (from .key) (to .key)) _ rest;
       }
 
-  pub agree-passes : Agree from to → agrees (slotOf from) (slotOf to) ≡ true
+  pub agree-passes : AlikeEntries from to → agrees (slotOf from) (slotOf to) ≡ true
   unfolding agrees sameFields
   agree-passes a =
       let f = from .fields in

@@ -11,7 +11,7 @@ use borrow.Author.Tests.{eqb-true, eqb-false, eq-eqb, ne-eqb, not-true, not-fals
 use Rattle.laws.specs.Choice.{pick}
 use Rattle.laws.proofs.Cases.{lt-or-le, neither, and-left, and-right}
 use Rattle.slots.specs.declared.Slot.{Slot}
-use Rattle.conversion.specs.Pairs.{pairCount, afterSide, numberOn, namedOn, isThere, firstFrom, leftOut, leavesOut}
+use Rattle.conversion_pairs.specs.Pairs.{pairCount, afterSide, numberOn, namedOn, isThere, firstFrom, leftOut, leavesOut}
 use Rattle.conversions.specs.Conforms.{Pair, pairsOf}
 use Rattle.conversions.specs.Verdict.{pairAt, First, Never}
 

@@ -42,7 +42,7 @@ pub record Pair : Type 0 where
   pub after : ℕ
 
 -- key, version, algorithm, side, place and network are the same, and the use lies within the use before
-pub record Agree (before after : Entry) : Type 0 where
+pub record AlikeEntries (before after : Entry) : Type 0 where
   pub key : before .key ≡ after .key
   pub version : before .fields .version ≡ after .fields .version
   pub algorithm : before .fields .algorithm ≡ after .fields .algorithm
@@ -62,7 +62,7 @@ pub record Numbered (es : List Entry) (n : ℕ) : Type 0 where
 pub record Joins (before after : List Entry) (p : Pair) : Type 0 where
   pub from : Numbered before (p .before)
   pub to : Numbered after (p .after)
-  pub agree : Agree (from .entry) (to .entry)
+  pub agree : AlikeEntries (from .entry) (to .entry)
 
 -- a record stands in a pair
 pub record Stands (pairs : List Pair) (e : Entry) : Type 0 where

@@ -8,7 +8,7 @@ use Rattle.refusals.specs.Numbers.{conversionTextBad, pairListBad, pairDiffers}
 use Rattle.record_reader.specs.Record.{Entry}
 use Rattle.conversion.specs.declared.Checked.{Checked}
 use Rattle.conversion.specs.Conversion.{checkedAs, passes}
-use Rattle.conversions.specs.Conforms.{In, Known, Pair, Agree, Numbered, Stands, Conforms}
+use Rattle.conversions.specs.Conforms.{In, Known, Pair, AlikeEntries, Numbered, Stands, Conforms}
 
 -- past the end only ever a default
 abbrev pub pairAt : List Pair → ℕ → Pair
@@ -25,7 +25,7 @@ pub data Misnames (before after : List Entry) (pairs : List Pair) (i : ℕ) : Ty
 pub record Differs (before after : List Entry) (pairs : List Pair) (i : ℕ) : Type 0 where
   pub from : Numbered before (pairAt pairs i .before)
   pub to : Numbered after (pairAt pairs i .after)
-  pub apart : Agree (from .entry) (to .entry) → ⊥
+  pub apart : AlikeEntries (from .entry) (to .entry) → ⊥
 
 -- i is the first of n for which something holds
 pub record First (Holds : ℕ → Type 0) (n i : ℕ) : Type 0 where

@@ -25,7 +25,7 @@ use Rattle.records.proofs.Promises.{read-or-refused}
 use Rattle.plan.specs.Plan.{planRefusal, planOf}
 use Rattle.sheet.specs.Sheet.{room, listedLength, listedBuffer}
 use Rattle.bench.specs.Bench.{benchRefusal, benched, benchBlocks}
-use Rattle.card.specs.Faces.{pieceNumbers}
+use Rattle.faces.specs.Faces.{pieceNumbers}
 use Rattle.slot_list.specs.List.{isNoTable}
 use Rattle.card.specs.Table.{loadedIn, movedIn, clearedIn, shownIn, trafficAnswerIn, wholeAnswerIn}
 use Rattle.whole.specs.declared.Pdu.{Pdu}

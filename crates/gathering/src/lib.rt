@@ -1,11 +1,11 @@
 // A text of records, gathered by number and not loaded: a record of any algorithm is taken (document 02, [11]).
 use record_reader::RecordRead;
 use record_reader::read_record;
-use slot_calls::slot_or_empty;
 use slots::Slot;
 use slots::empty_table;
 use slots::is_filled;
 use slots::with_slot;
+use table_calls::slot_or_empty;
 ghost use mathlib.Core.Path.{_≡_};
 ghost use Rattle.gathering.specs.Gathering.{gatheredTo, notGathered, entered, gathered};
 ghost use Rattle.refusals.specs.Numbers.{done};

@@ -1,4 +1,3 @@
 pub mod Table
 pub mod Bounds
 pub mod Doubling
-pub mod Inverse

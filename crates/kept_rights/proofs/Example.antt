@@ -9,7 +9,8 @@ use Rattle.slot_calls.specs.Calls.{moveRefusalOf, slotRefusalOf, clearRefusalOf
 use Rattle.record_reader.specs.Record.{Entry}
 use Rattle.two_runs.specs.Calls.{Call, move, clear}
 use Rattle.two_runs.specs.Step.{Seen}
-use Rattle.two_runs.specs.Card.{ourCard, step}
+use Rattle.two_runs.specs.Card.{step}
+use Rattle.demand_3.specs.Ours.{ourCard}
 use Rattle.two_runs.specs.Trace.{traced}
 use Rattle.two_runs.specs.Run.{startOf, next, run, stateAt, tableAt, traceAt}
 use Rattle.kept_rights.specs.Left.{entriesFrom, entriesOf, pairsLeft}

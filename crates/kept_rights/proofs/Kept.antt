@@ -14,12 +14,12 @@ use Rattle.slots.proofs.Tables.{filled-not-empty}
 use Rattle.record_text.specs.Text.{Good}
 use Rattle.record_reader.specs.Record.{Entry}
 use Rattle.two_runs.specs.Calls.{Call, Origin, present}
-use Rattle.two_runs.specs.Card.{ourCard}
+use Rattle.demand_3.specs.Ours.{ourCard}
 use Rattle.two_runs.specs.Trace.{Trace}
 use Rattle.two_runs.specs.Run.{startOf, tableAt, traceAt}
 use Rattle.two_runs.specs.Demand.{given, Kept, Holds}
-use Rattle.two_runs.proofs.Corollaries.{alone}
-use Rattle.conversions.specs.Conforms.{In, Apart, Known, Pair, Agree, Joins, Conforms, Converts, pairsOf}
+use Rattle.sessions.proofs.Corollaries.{alone}
+use Rattle.conversions.specs.Conforms.{In, Apart, Known, Pair, AlikeEntries, Joins, Conforms, Converts, pairsOf}
 use Rattle.conversions.proofs.Tables.{reads-good}
 use Rattle.kept_rights.specs.Left.{entryOf, entriesOf, entriesText, startNumber, pairsLeft, hasLoad, OfKind}
 use Rattle.kept_rights.proofs.Records.{OfTable, of-table, records-once, entry-good, text-reads}
@@ -64,7 +64,7 @@ pairs-are trace (e ∷ es) = ap (λ (l : List Pair). pairOf trace e ∷ l) (pair
 
 -- a record, and what it was at the start
 
-kept-agrees : (m n : ℕ) {old new : Slot} → Kept old new → Agree (entryOf m old) (entryOf n new)
+kept-agrees : (m n : ℕ) {old new : Slot} → Kept old new → AlikeEntries (entryOf m old) (entryOf n new)
 kept-agrees m n k = record {
   key = sym (ap (λ (s : Slot). s .key) (k .rest));
   version = sym (ap (λ (s : Slot). s .fields .version) (k .rest));
@@ -153,7 +153,7 @@ module _ (start : List Slot) (size : length start ≡ 32) (sound : hasBad start 
         record {
           from = record { entry = entryOf (w .number) (slotAt start (w .number)); stands = holds (w .number) (w .numbered) (w .filled); number = sym (before-of w) };
           to = record { entry = e; stands = m; number = refl };
-          agree = subst (Agree (entryOf (w .number) (slotAt start (w .number)))) (sym (c .slot .is)) (kept-agrees (w .number) (e .number) (w .kept));
+          agree = subst (AlikeEntries (entryOf (w .number) (slotAt start (w .number)))) (sym (c .slot .is)) (kept-agrees (w .number) (e .number) (w .kept));
         }
 
     after-good : (e : Entry) → In e after → Good true (e .number) (e .fields) (e .key)

@@ -19,10 +19,11 @@ use Rattle.slot_calls.specs.Calls.{moveRefusal}
 use Rattle.slot_calls.proofs.Passed.{move-passed}
 use Rattle.slot_calls.proofs.Left.{Good, load-good, move-good, clear-good}
 use Rattle.two_runs.specs.Calls.{Call, load, move, clear, read, traffic, Origin, present}
-use Rattle.two_runs.specs.Card.{ourCard, step}
+use Rattle.two_runs.specs.Card.{step}
+use Rattle.demand_3.specs.Ours.{ourCard}
 use Rattle.two_runs.specs.Trace.{Trace, atStart, put, traced}
 use Rattle.two_runs.specs.Run.{State, startOf, accepted, next, stateAt}
-use Rattle.two_runs.proofs.Facts.{our-facts}
+use Rattle.demand_3.proofs.Facts.{our-facts}
 use Rattle.kept_rights.specs.Left.{isLoad, hasLoad}
 
 -- a slot of the start that is filled

@@ -4,7 +4,7 @@ use mathlib.Core.List.{List}
 use Prim.Native.Nat.{ℕ}
 use Rattle.slots.specs.declared.Slot.{Slot}
 use Rattle.two_runs.specs.Calls.{Call}
-use Rattle.two_runs.specs.Card.{ourCard}
+use Rattle.demand_3.specs.Ours.{ourCard}
 use Rattle.two_runs.specs.Run.{tableAt, traceAt}
 use Rattle.conversion.specs.Conversion.{passes, conversionChecked}
 use Rattle.kept_rights.specs.Left.{entriesOf, entriesText, pairsLeft}

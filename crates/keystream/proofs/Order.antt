@@ -9,8 +9,8 @@ use lib.Dec.{eqb}
 use lib.ListN.{length, getD, set, length-set}
 use lib.Seq.{getD-set-same}
 use Rattle.laws.proofs.Cases.{pick-cases, lt-or-le}
-use Rattle.span.specs.Span.{blockAfter}
-use Rattle.span.proofs.Blocks.{after-none, after-some}
+use Rattle.block_counts.specs.Counts.{blockAfter}
+use Rattle.block_counts.proofs.Blocks.{after-none, after-some}
 use Rattle.tea.specs.declared.mode.Mode.{Mode}
 use Rattle.tea.specs.Keystream.{blockOf}
 use Rattle.keystream.specs.declared.Work.{Work}

@@ -4,8 +4,8 @@ use mathlib.Core.List.{List}
 use Prim.Native.Nat.{ℕ, zero, suc, _+_, _-_, _/_, _<_, _≤_, max}
 use native.Mathlib.Omega.{arith}
 use lib.ListN.{length}
-use Rattle.span.specs.Span.{blocksUsed, blockAfter}
-use Rattle.span.proofs.Blocks.{after-used, after-early, both-used}
+use Rattle.block_counts.specs.Counts.{blocksUsed, blockAfter}
+use Rattle.block_counts.proofs.Blocks.{after-used, after-early, both-used}
 use Rattle.keystream.specs.declared.Run.{Run}
 use Rattle.keystream.specs.Work.{Fits, Later, throughRun, blocksOver}
 

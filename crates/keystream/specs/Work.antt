@@ -5,7 +5,8 @@ use Prim.Native.Nat.{ℕ, _+_, _-_, _*_, _%_, _<_, _≤_}
 use lib.Dec.{eqb}
 use lib.ListN.{length, getD}
 use Rattle.laws.specs.Choice.{pick}
-use Rattle.span.specs.Span.{longestStream, xored, blocksOfBoth}
+use Rattle.span.specs.Span.{longestStream, xored}
+use Rattle.block_counts.specs.Counts.{blocksOfBoth}
 use Rattle.tea.specs.declared.mode.Mode.{Mode}
 use Rattle.tea.specs.Keystream.{blockOf}
 use Rattle.keystream.specs.declared.Run.{Run}

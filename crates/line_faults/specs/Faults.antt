@@ -8,7 +8,7 @@ use lib.ListN.{length, take}
 use Rattle.laws.specs.Choice.{pick}
 use Rattle.fields.specs.Fields.{between}
 use Rattle.line_parts.specs.Line.{cr, endsWith, leading, valueIn, isSpaced}
-use Rattle.line_faults.specs.Names.{keyName, numberIn, isDecimal}
+use Rattle.line_names.specs.Names.{keyName, numberIn, isDecimal}
 use Rattle.line_faults.specs.declared.Fault.{Fault}
 use Rattle.line_faults.specs.declared.Fault.the-variants.{Crlf, Hex, Zeros, Spaces}
 

@@ -1,18 +1,16 @@
 // What is mended in a line of a damaged record sheet (document 02, [12]).
-pub mod names;
-
+use line_names::is_decimal;
+use line_names::number_in;
 use line_parts::ends_with;
 use line_parts::front;
 use line_parts::is_spaced;
 use line_parts::leading;
 use line_parts::value_in;
-use names::is_decimal;
-use names::number_in;
 ghost use mathlib.Core.Bool.{_&&_};
 ghost use mathlib.Core.Path.{_≡_};
 ghost use lib.Dec.{eqb, ltb};
 ghost use Rattle.line_parts.specs.Line.{valueIn};
-ghost use Rattle.line_faults.specs.Names.{keyName, numberIn};
+ghost use Rattle.line_names.specs.Names.{keyName, numberIn};
 ghost use Rattle.line_faults.specs.Faults.{zerosIn, zerosDropped, isUpperHex, anyUpperHex, lowerHex, hasFault};
 
 const CR: u8 = 13;
@@ -83,7 +81,7 @@ pub fn lower_hex(b: u8) -> u8
 fn has_upper_hex(line: &[u8]) -> bool
     ensures { λ r. ⌜ r ≡ eqb (numberIn (now (line .entry))) keyName && anyUpperHex (valueIn (now (line .entry))) ⌝ }
 {
-    if number_in(line) != names::KEY {
+    if number_in(line) != line_names::KEY {
         return false;
     }
     any_upper_hex(value_in(line))

@@ -16,7 +16,7 @@ use Rattle.laws.specs.Choice.{pick}
 use Rattle.laws.proofs.Cases.{lt-or-le, pick-cases}
 use Rattle.writing.specs.Text.{ascii, lf, digits, hexDigit, hexText, lineText}
 use Rattle.writing.proofs.Digits.{digits-one, digits-ten}
-use Rattle.lines.specs.Line.{lineEnds, lineOf, columnAfter, columnOf, throughEnds, placeOf}
+use Rattle.lines.specs.Line.{lineEnds, lineOf, columnAfter, columnOf, throughEnds, placeAt}
 
 pub ends-append : (s t : List ℕ) → lineEnds (s ++ t) ≡ lineEnds s + lineEnds t
 unfolding lineEnds
@@ -109,15 +109,15 @@ named (b ∷ s) (suc p) c h = go (eqb b lf) (lineEnds (take p s)) (named s p 1 (
         subst (λ (n : ℕ). pick (eqb n 0) 0 (suc (throughEnds n s)) + columnAfter (c + 1) (take p s) ≡ suc p + pick (eqb n 0) c 1) (sym z)
         (inside (eqb e 0) e refl q)
 
-pub place-named : (s : List ℕ) (p : ℕ) → p ≤ length s → placeOf s (lineOf s p) (columnOf s p) ≡ p
-unfolding placeOf lineOf columnOf
+pub place-named : (s : List ℕ) (p : ℕ) → p ≤ length s → placeAt s (lineOf s p) (columnOf s p) ≡ p
+unfolding placeAt lineOf columnOf
 place-named s p h =
     let z : 1 + lineEnds (take p s) - 1 ≡ lineEnds (take p s) = omega arith in
     ap (λ (n : ℕ). throughEnds n s + (columnAfter 1 (take p s) - 1)) z
     ∙ omega (arith, named s p 1 h ∙ ap (p +_) (one-or-one (eqb (lineEnds (take p s)) 0)), column-some 1 (take p s) (omega arith))
 
 pub one-named : (s : List ℕ) (p q : ℕ) → p ≤ length s → q ≤ length s → lineOf s p ≡ lineOf s q → columnOf s p ≡ columnOf s q → p ≡ q
-one-named s p q h g e f = sym (place-named s p h) ∙ (λ i. placeOf s (e i) (f i)) ∙ place-named s q g
+one-named s p q h g e f = sym (place-named s p h) ∙ (λ i. placeAt s (e i) (f i)) ∙ place-named s q g
 
 -- no digit is a line end
 

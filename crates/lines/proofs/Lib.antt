@@ -1,4 +1,2 @@
 pub mod Pieces
-pub mod Digits
-pub mod Hexes
 pub mod Ends

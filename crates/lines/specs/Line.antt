@@ -55,5 +55,5 @@ throughEnds n [] = 0
 throughEnds n (b ∷ s) = pick (eqb n 0) 0 (suc (throughEnds (pick (eqb b lf) (n - 1) n) s))
 
 -- the place that a line and a column name
-unfoldable pub placeOf : List ℕ → ℕ → ℕ → ℕ
-placeOf s line column = throughEnds (line - 1) s + (column - 1)
+unfoldable pub placeAt : List ℕ → ℕ → ℕ → ℕ
+placeAt s line column = throughEnds (line - 1) s + (column - 1)

@@ -1,6 +1,4 @@
 // The lines of a text: the line and the column of a place, and a line's parts, which single spaces separate.
-pub mod bytes;
-pub mod number;
 
 ghost use mathlib.Core.Path.{_≡_};
 ghost use Prim.Native.Nat.{_≤_};

@@ -1,9 +1,9 @@
 // A sheet's records, loaded into an empty table one after the other.
 use record_reader::read_record;
-use slot_calls::load;
 use slots::Slot;
 use slots::asked;
 use slots::empty_table;
+use table_calls::load;
 ghost use mathlib.Core.Path.{_≡_};
 ghost use Rattle.loading.specs.Loading.{filled, refused, loadAll};
 

@@ -11,7 +11,7 @@ use Rattle.writing.specs.Text.{ascii, lf}
 use Rattle.laws.specs.Choice.{pick}
 use Rattle.line_parts.specs.Line.{equals, leading}
 use Rattle.line_parts.proofs.Counts.{leading-within}
-use Rattle.line_faults.specs.Names.{formName, algName, useName, keyName, nameCount, nameText, isDecimal, hasName}
+use Rattle.line_names.specs.Names.{formName, algName, useName, keyName, nameCount, nameText, isDecimal, hasName}
 use Rattle.line_faults.specs.Faults.{zerosIn, zerosDropped, lowerHex}
 use Rattle.sheet_faults.specs.Sheet.{isFormTwo, valueNamed}
 use Rattle.mended_text.specs.Text.{lowered, mendedValue, gained, valueMended, lineMended, linesMended, textMended}

@@ -11,7 +11,7 @@ use Rattle.laws.specs.Choice.{pick}
 use Rattle.writing.specs.Text.{ascii, lf}
 use Rattle.lines.specs.Line.{space, indexOf}
 use Rattle.line_parts.specs.Line.{cr, equals, endsWith, leading, bare, afterEquals, valueIn}
-use Rattle.line_faults.specs.Names.{formName, keyName, nameCount, nameText, numberIn, hasName}
+use Rattle.line_names.specs.Names.{formName, keyName, nameCount, nameText, numberIn, hasName}
 use Rattle.line_faults.specs.Faults.{zerosDropped}
 use Rattle.sheet_faults.specs.Sheet.{ontoFirst, linesOf, isFormTwo, valueNamed}
 use Rattle.mended_text.specs.Text.{lowered, mendedValue, gained, valueMended, lineMended, linesMended, textMended}

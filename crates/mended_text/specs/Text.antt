@@ -7,7 +7,7 @@ use lib.ListN.{drop}
 use Rattle.laws.specs.Choice.{pick}
 use Rattle.writing.specs.Text.{ascii, lf}
 use Rattle.line_parts.specs.Line.{equals}
-use Rattle.line_faults.specs.Names.{formName, keyName, nameCount, nameText, hasName}
+use Rattle.line_names.specs.Names.{formName, keyName, nameCount, nameText, hasName}
 use Rattle.line_faults.specs.Faults.{zerosDropped, lowerHex}
 use Rattle.sheet_faults.specs.Sheet.{isFormTwo, valueNamed}
 

@@ -1,10 +1,9 @@
 // The mended text of a damaged record sheet (document 02, [12]): the ten lines of form 2, each with the value that the sheet has under its
 // name. Each writer puts a text into the buffer from a place on, and answers with the place at which it ends.
 use line_faults::lower_hex;
-use line_faults::names;
-use line_faults::names::has_name;
-use line_faults::names::name_bytes;
 use line_faults::zeros_dropped;
+use line_names::has_name;
+use line_names::name_bytes;
 use line_parts::front;
 use line_parts::rest;
 use lines::index_of;
@@ -14,7 +13,7 @@ ghost use mathlib.Core.List.{[], _∷_, _++_};
 ghost use mathlib.Core.Path.{_≡_};
 ghost use Rattle.writing.specs.Writing.{Room, Put};
 ghost use Rattle.line_parts.specs.Line.{equals};
-ghost use Rattle.line_faults.specs.Names.{nameText};
+ghost use Rattle.line_names.specs.Names.{nameText};
 ghost use Rattle.sheet_faults.specs.Sheet.{linesOf, isFormTwo};
 ghost use Rattle.mended_text.specs.Text.{lowered, mendedValue, gained, valueMended, lineMended, textMended};
 
@@ -40,7 +39,7 @@ fn put_mended<'a>(buffer: &'a mut [u8], at: usize, k: usize, value: &'a [u8]) ->
     ensures { λ r. ⌜ Put (now (buffer .entry)) at (mendedValue k (now (value .entry))) (now (buffer .exit)) r ⌝ }
 {
     let digits = rest(value, zeros_dropped(k, value));
-    if k == names::KEY {
+    if k == line_names::KEY {
         return put_lowered(buffer, at, digits);
     }
     put_bytes(buffer, at, digits)
@@ -96,7 +95,7 @@ pub fn put_text<'a>(buffer: &'a mut [u8], text: &'a [u8], two: bool) -> usize
 {
     let mut at = 0;
     let mut k = 0;
-    while k < names::NAMES {
+    while k < line_names::NAMES {
         let next = put_line(buffer, at, text, two, k);
         at = next;
         k += 1;

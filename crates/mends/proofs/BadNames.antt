@@ -12,7 +12,7 @@ use Rattle.laws.specs.Choice.{pick}
 use Rattle.laws.proofs.Cases.{and-left, and-right, lt-or-le, neither}
 use Rattle.writing.specs.Text.{lf}
 use Rattle.line_parts.specs.Line.{endsWith}
-use Rattle.line_faults.specs.Names.{nameText, nameCount, nameNumber, hasName}
+use Rattle.line_names.specs.Names.{nameText, nameCount, nameNumber, hasName}
 use Rattle.sheet_faults.specs.Sheet.{timesNamed, isFormTwo, namesRightFrom, namesRight, linesOf, mostBytes, sheetBad}
 use Rattle.mends.specs.Refused.{nameAt, OfWhichForm, Missing, Doubled, Unknown}
 use Rattle.mends.proofs.Sheets.{number-named}

@@ -10,7 +10,7 @@ use Rattle.fields.specs.declared.Fields.{Fields}
 use Rattle.writing.specs.Text.{lf}
 use Rattle.record_text.specs.Text.{linesText, formText}
 use Rattle.line_parts.specs.Line.{equals}
-use Rattle.line_faults.specs.Names.{nameText, nameCount, hasName, keyName, isDecimal}
+use Rattle.line_names.specs.Names.{nameText, nameCount, hasName, keyName, isDecimal}
 use Rattle.mended_text.specs.Text.{valueMended, lineMended, linesMended}
 use Rattle.mends.specs.Damage.{Damage, valueSaid, namesFrom, namesOfForm, valueDamaged, lineDamaged, sheetDamaged, raised}
 use Rattle.mends.proofs.Wanted.{names-first}

@@ -15,7 +15,7 @@ use Rattle.refusals.specs.Numbers.{done}
 use Rattle.writing.specs.Text.{ascii, digits, digitsWithin}
 use Rattle.record_text.specs.Text.{recordText, Good}
 use Rattle.records.proofs.Promises.{for-two}
-use Rattle.line_faults.specs.Names.{nameCount, hasName, sameText}
+use Rattle.line_names.specs.Names.{nameCount, hasName, sameText}
 use Rattle.line_faults.specs.declared.Fault.the-variants.{Crlf, Hex, Zeros, Spaces}
 use Rattle.sheet_faults.specs.Sheet.{linesOf, timesNamed, valueNamed, isFormTwo, inOrderFrom, namesRightFrom, namesRight, mostBytes, sheetBad}
 use Rattle.mended_text.specs.Text.{mendedValue, gained, valueMended, linesMended, textMended}

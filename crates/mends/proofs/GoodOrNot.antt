@@ -16,7 +16,7 @@ use Rattle.forms.proofs.Decimals.{decimal-means}
 use Rattle.record_text.specs.Text.{useWord}
 use Rattle.record_reader.specs.Lines.{useForm, algorithmForm, keyForm}
 use Rattle.record_reader.proofs.Lines.{use-means, algorithm-means, key-means}
-use Rattle.line_faults.specs.Names.{nameCount, sameText}
+use Rattle.line_names.specs.Names.{nameCount, sameText}
 use Rattle.mends.specs.Refused.{TextOf, NumberIn, GoodValue}
 use Rattle.mends.proofs.OneLine.{marks-without}
 use Rattle.mends.proofs.GoodValues.{below-ten, digits-marks, name-form, use-form, key-form}

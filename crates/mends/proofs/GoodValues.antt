@@ -19,7 +19,7 @@ use Rattle.writing.proofs.Puts.{length-hex}
 use Rattle.record_text.specs.Text.{useWord, Good}
 use Rattle.lines.specs.Line.{space}
 use Rattle.line_parts.specs.Line.{equals, leading}
-use Rattle.line_faults.specs.Names.{nameCount, keyName, isDecimal}
+use Rattle.line_names.specs.Names.{nameCount, keyName, isDecimal}
 use Rattle.line_faults.specs.Faults.{zerosIn, isUpperHex, anyUpperHex}
 use Rattle.mends.specs.Damage.{valueSaid}
 use Rattle.mends.proofs.Bytes.{every, both-true, every-append, front-is}

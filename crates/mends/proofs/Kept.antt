@@ -13,7 +13,7 @@ use Rattle.fields.specs.declared.Fields.{Fields}
 use Rattle.writing.specs.Text.{ascii, lf, digits, digitsWithin}
 use Rattle.record_text.specs.Text.{Good}
 use Rattle.line_parts.specs.Line.{equals, nameIn, valueIn}
-use Rattle.line_faults.specs.Names.{nameText, nameCount, isDecimal, hasName}
+use Rattle.line_names.specs.Names.{nameText, nameCount, isDecimal, hasName}
 use Rattle.sheet_faults.specs.Sheet.{linesOf, timesNamed, valueNamed, isFormTwo}
 use Rattle.line_faults.specs.Faults.{zerosDropped}
 use Rattle.mended_text.specs.Text.{mendedValue, gained, valueMended, textMended}

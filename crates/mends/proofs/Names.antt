@@ -11,8 +11,8 @@ use borrow.Author.Tests.{eq-eqb, ne-eqb}
 use Rattle.laws.specs.Choice.{pick}
 use Rattle.laws.proofs.Cases.{eq-or-ne}
 use Rattle.line_parts.specs.Line.{valueIn}
-use Rattle.line_faults.specs.Names.{nameText, nameCount, sameText, numberFrom, nameNumber, numberIn}
-use Rattle.line_faults.proofs.Same.{number-most}
+use Rattle.line_names.specs.Names.{nameText, nameCount, sameText, numberFrom, nameNumber, numberIn}
+use Rattle.line_names.proofs.Same.{number-most}
 use Rattle.sheet_faults.specs.Sheet.{timesNamed, valueNamed}
 use Rattle.mends.proofs.Orders.{same-is}
 

@@ -17,7 +17,7 @@ use Rattle.writing.specs.Text.{lf}
 use Rattle.record_text.specs.Text.{Good}
 use Rattle.records.proofs.Promises.{of-form}
 use Rattle.line_parts.specs.Line.{hasEquals, nameIn}
-use Rattle.line_faults.specs.Names.{nameText, nameCount, numberIn, hasName}
+use Rattle.line_names.specs.Names.{nameText, nameCount, numberIn, hasName}
 use Rattle.sheet_faults.specs.Sheet.{linesOf, timesNamed, isFormTwo, namesRight, mostBytes}
 use Rattle.mended_text.specs.Text.{textMended}
 use Rattle.mending.specs.Answer.{mendRefusal}

@@ -9,7 +9,7 @@ use lib.Dec.{eqb, ltb, leb}
 use borrow.Author.Tests.{eq-eqb, ne-eqb, eqb-true, leb-true, le-leb, ltb-true}
 use Rattle.laws.specs.Choice.{pick}
 use Rattle.laws.proofs.Cases.{and-left, and-right, eq-or-ne}
-use Rattle.line_faults.specs.Names.{hasName, sameText}
+use Rattle.line_names.specs.Names.{hasName, sameText}
 use Rattle.mends.specs.Damage.{namesFrom, namesOfForm}
 use Rattle.mends.proofs.Bytes.{every, both-true}
 

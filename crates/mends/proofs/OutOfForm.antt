@@ -15,7 +15,7 @@ use Rattle.writing.specs.Text.{ascii, digits, digitsWithin}
 use Rattle.forms.proofs.Decimals.{between-is}
 use Rattle.record_text.specs.Text.{Good}
 use Rattle.line_parts.specs.Line.{valueIn}
-use Rattle.line_faults.specs.Names.{nameCount, hasName}
+use Rattle.line_names.specs.Names.{nameCount, hasName}
 use Rattle.sheet_faults.specs.Sheet.{linesOf, timesNamed, valueNamed, isFormTwo, sheetBad}
 use Rattle.mended_text.specs.Text.{mendedValue, gained, valueMended, textMended}
 use Rattle.mending.specs.Answer.{mendRefusal, sheetValueBad}

@@ -16,7 +16,7 @@ use Rattle.forms.proofs.Decimals.{between-is}
 use Rattle.lines.specs.Line.{space, indexOf}
 use Rattle.line_parts.specs.Line.{cr, equals, endsWith, leading, trailing, bare, beforeEquals, afterEquals, hasEquals, nameIn, valueIn}
 use Rattle.line_parts.proofs.Counts.{trailing-within}
-use Rattle.line_faults.specs.Names.{keyName, isDecimal, nameText, numberIn}
+use Rattle.line_names.specs.Names.{keyName, isDecimal, nameText, numberIn}
 use Rattle.line_faults.specs.Faults.{isUpperHex, lowerHex, zerosIn}
 use Rattle.mended_text.specs.Text.{lowered, mendedValue}
 use Rattle.mends.specs.Damage.{Damage, raise, raised, valueDamaged, lineDamaged}

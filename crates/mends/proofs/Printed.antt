@@ -15,7 +15,7 @@ use Rattle.record_text.specs.Text.{formText, recordText, Good}
 use Rattle.record_text.proofs.Lengths.{text-size}
 use Rattle.record_reader.specs.Record.{startsForm, recordRead}
 use Rattle.records.proofs.Promises.{Begins, read-is-good, good-is-read}
-use Rattle.line_faults.specs.Names.{nameText}
+use Rattle.line_names.specs.Names.{nameText}
 use Rattle.sheet_faults.specs.Sheet.{linesOf, sheetBad}
 use Rattle.mended_text.specs.Text.{textMended, linesMended, lineMended}
 use Rattle.mending.specs.Changes.{isRecord, changesText, sheetMended}

@@ -14,7 +14,7 @@ use Rattle.fields.specs.declared.Fields.{Fields}
 use Rattle.writing.specs.Text.{ascii, digits, digitsWithin}
 use Rattle.record_text.specs.Text.{formText, recordText, Good}
 use Rattle.line_parts.specs.Line.{valueIn}
-use Rattle.line_faults.specs.Names.{numberIn}
+use Rattle.line_names.specs.Names.{numberIn}
 use Rattle.sheet_faults.specs.Sheet.{linesOf, isFormTwo, mostBytes}
 use Rattle.mended_text.specs.Text.{textMended}
 use Rattle.mending.specs.Changes.{changeText, changesText, sheetMended}

@@ -12,7 +12,7 @@ use Rattle.laws.proofs.Cases.{and-left, and-right}
 use Rattle.laws.proofs.Tests.{holds, agree}
 use Rattle.writing.specs.Text.{lf}
 use Rattle.line_parts.specs.Line.{endsWith, valueIn}
-use Rattle.line_faults.specs.Names.{nameText, nameCount, nameNumber, numberIn, numberFrom, sameText, keyName}
+use Rattle.line_names.specs.Names.{nameText, nameCount, nameNumber, numberIn, numberFrom, sameText, keyName}
 use Rattle.line_faults.specs.Faults.{hasFault, anyUpperHex, zerosDropped}
 use Rattle.mended_text.specs.Text.{mendedValue}
 use Rattle.line_faults.specs.declared.Fault.{Fault}

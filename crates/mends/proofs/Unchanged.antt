@@ -13,7 +13,7 @@ use Rattle.writing.specs.Text.{ascii}
 use Rattle.record_text.specs.Text.{linesText, formText, recordText, Good}
 use Rattle.record_text.proofs.Lengths.{text-size}
 use Rattle.records.proofs.Promises.{for-two}
-use Rattle.line_faults.specs.Names.{hasName, sameText, isDecimal, keyName}
+use Rattle.line_names.specs.Names.{hasName, sameText, isDecimal, keyName}
 use Rattle.sheet_faults.specs.Sheet.{linesOf, mostBytes}
 use Rattle.mended_text.specs.Text.{textMended}
 use Rattle.mending.specs.Changes.{changeText, sheetMended}

@@ -9,7 +9,7 @@ use lib.ListN.{length, take, drop, replicate, length-append, length-replicate}
 use lib.Seq.{take-append-add, drop-at}
 use Rattle.laws.specs.Choice.{pick}
 use Rattle.line_parts.specs.Line.{leading}
-use Rattle.line_faults.specs.Names.{keyName, algName, useName, isDecimal}
+use Rattle.line_names.specs.Names.{keyName, algName, useName, isDecimal}
 use Rattle.line_faults.specs.Faults.{zerosIn, zerosDropped, anyUpperHex}
 use Rattle.mended_text.specs.Text.{lowered, mendedValue}
 use Rattle.mended_text.proofs.Laws.{mended-cases}

@@ -10,7 +10,7 @@ use borrow.Author.Tests.{ne-eqb, le-ltb}
 use Rattle.laws.specs.Choice.{pick}
 use Rattle.laws.proofs.Cases.{lt-or-le}
 use Rattle.laws.proofs.Tests.{holds, agree}
-use Rattle.line_faults.specs.Names.{nameCount, formName, mccName, mncName, hasName}
+use Rattle.line_names.specs.Names.{nameCount, formName, mccName, mncName, hasName}
 use Rattle.mends.specs.Damage.{namesFrom, namesOfForm}
 use Rattle.mends.proofs.Bytes.{every}
 use Rattle.mends.proofs.Orders.{countOf}

@@ -14,7 +14,7 @@ use Rattle.fields.specs.Fields.{between}
 use Rattle.writing.specs.Text.{ascii, lf}
 use Rattle.lines.specs.Line.{space, indexOf}
 use Rattle.line_parts.specs.Line.{cr, equals, endsWith, leading, bare, afterEquals, valueIn}
-use Rattle.line_faults.specs.Names.{formName, keyName, numberIn, isDecimal, hasName}
+use Rattle.line_names.specs.Names.{formName, keyName, numberIn, isDecimal, hasName}
 use Rattle.line_faults.specs.Faults.{zerosIn, isUpperHex, lowerHex}
 use Rattle.sheet_faults.specs.Sheet.{ontoFirst, linesOf, valueNamed}
 use Rattle.mended_text.specs.Text.{lowered, mendedValue, gained, valueMended}

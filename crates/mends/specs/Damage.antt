@@ -14,7 +14,7 @@ use Rattle.writing.specs.Text.{ascii, lf, digits, hexText}
 use Rattle.record_text.specs.Text.{useWord, Good}
 use Rattle.lines.specs.Line.{space}
 use Rattle.line_parts.specs.Line.{cr, equals}
-use Rattle.line_faults.specs.Names.{nameCount, keyName, nameText, isDecimal, hasName, sameText}
+use Rattle.line_names.specs.Names.{nameCount, keyName, nameText, isDecimal, hasName, sameText}
 use Rattle.mending.specs.Changes.{changeText}
 
 -- the value that a record has under the name of number k, as its line says it

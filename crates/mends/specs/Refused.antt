@@ -9,7 +9,7 @@ use Rattle.fields.specs.Fields.{isAlgorithm, isUse}
 use Rattle.writing.specs.Text.{ascii, lf, digits, hexText}
 use Rattle.record_text.specs.Text.{useWord}
 use Rattle.line_parts.specs.Line.{nameIn, valueIn}
-use Rattle.line_faults.specs.Names.{nameText, numberIn, hasName}
+use Rattle.line_names.specs.Names.{nameText, numberIn, hasName}
 use Rattle.mended_text.specs.Text.{mendedValue}
 use Rattle.sheet_faults.specs.Sheet.{linesOf, isFormTwo, mostBytes}
 

@@ -3,7 +3,8 @@ use mathlib.Core.Path.{_≡_, refl}
 use mathlib.Core.List.{List}
 use Prim.Native.Nat.{ℕ}
 use borrow.Author.Tests.{eq-eqb, ne-eqb}
-use Rattle.span.specs.Span.{written, blocksUsed}
+use Rattle.span.specs.Span.{written}
+use Rattle.block_counts.specs.Counts.{blocksUsed}
 use Rattle.keystream.specs.Stream.{keystream}
 use Rattle.bench.specs.Bench.{benchRefusal, benched, benchBlocks}
 use Rattle.plain.specs.Given.{givenRefusal, givenBuffer, givenBlocks}

@@ -4,8 +4,8 @@ use mathlib.Core.Logic.{⊎-elim}
 use Prim.Native.Nat.{ℕ, _+_, _%_, _<_, _≤_}
 use native.Mathlib.Omega.{arith}
 use Rattle.laws.proofs.Cases.{lt-or-le}
-use Rattle.span.specs.Span.{blocksUsed}
-use Rattle.span.proofs.Blocks.{used-none, used-some}
+use Rattle.block_counts.specs.Counts.{blocksUsed}
+use Rattle.block_counts.proofs.Blocks.{used-none, used-some}
 
 pub one-more : (skip done p : ℕ) → 0 < p → (skip + done) % 256 + p ≤ 256 → (0 < done → (skip + done) % 256 ≡ 0) → blocksUsed skip done + 1 ≡ blocksUsed skip (done + p)
 one-more skip done p some fits edge =

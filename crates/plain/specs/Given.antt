@@ -6,7 +6,8 @@ use lib.Dec.{eqb}
 use lib.ListN.{length}
 use Rattle.laws.specs.Choice.{pick}
 use Rattle.refusals.specs.Numbers.{done}
-use Rattle.span.specs.Span.{written, blocksUsed}
+use Rattle.span.specs.Span.{written}
+use Rattle.block_counts.specs.Counts.{blocksUsed}
 use Rattle.keystream.specs.Stream.{keystream}
 use Rattle.bench.specs.Bench.{keyedRefusal}
 

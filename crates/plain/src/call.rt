@@ -2,11 +2,12 @@
 ghost use mathlib.Core.Path.{_≡_};
 ghost use Prim.Native.Nat.{_+_, _-_, _*_, _<_, _≤_, min};
 ghost use lib.ListN.{length};
-ghost use Rattle.span.specs.Span.{xored, written, streamBit, blocksUsed};
+ghost use Rattle.span.specs.Span.{xored, written, streamBit};
+ghost use Rattle.block_counts.specs.Counts.{blocksUsed};
 ghost use Rattle.tea.specs.Keystream.{blockOf};
 ghost use Rattle.plain.specs.Given.{givenRefusal, givenBuffer, givenBlocks};
-use crate::blocks::block;
-use crate::mode::mode_of;
+use plain_blocks::blocks::block;
+use plain_blocks::mode::mode_of;
 use tea::mode::Mode;
 
 // Whether keystream may be had from bit `skip` on: the bench call's tests, with the skip.

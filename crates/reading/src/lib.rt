@@ -4,7 +4,6 @@ ghost use Prim.Native.Nat.{_≤_};
 ghost use Rattle.forms.specs.Form.{done, readAt, literal, named};
 ghost use Rattle.forms.specs.Decimals.{isDigit, mayBegin, mayFollow, after, decimal};
 ghost use Rattle.forms.specs.Words.{oneOf};
-ghost use Rattle.forms.specs.Hexes.{hexOr, halfByte, byte};
 ghost use Rattle.reading.specs.Reading.{goodTo, wrongAt, onward, answer, further};
 
 // What is read so far: the last value and the place after its text; or, once a byte is wrong, no value and the place of that byte.
@@ -24,7 +23,7 @@ pub fn good_to(value: u64, place: usize) -> Reading
     }
 }
 
-fn wrong_at(place: usize) -> Reading
+pub fn wrong_at(place: usize) -> Reading
     ensures { λ r. ⌜ r ≡ wrongAt place ⌝ }
 {
     Reading {
@@ -182,54 +181,4 @@ pub fn read_one_of(
     let three = read_word(s, before, &c, first + 2);
     let word = further(one, further(two, three));
     read_word(s, word, b"\n", word.value)
-}
-
-// The value of a lower-case hex digit, or 16.
-pub fn hex_value(c: u8) -> u64
-    ensures { λ r. ⌜ r ≡ hexOr c ⌝ }
-{
-    if c < 48 {
-        return 16;
-    }
-    if c <= 57 {
-        return (c - 48) as u64;
-    }
-    if c < 97 {
-        return 16;
-    }
-    if c <= 102 {
-        return (c - 87) as u64;
-    }
-    16
-}
-
-// One hex digit.
-fn read_half(s: &[u8], before: Reading) -> Reading
-    ensures { λ r. ⌜ r ≡ answer (onward before halfByte (now (s .entry))) ⌝ }
-{
-    let at = before.place;
-    if !before.good {
-        return wrong_at(at);
-    }
-    if s.len() <= at {
-        return wrong_at(at);
-    }
-    let value = hex_value(s[at]);
-    if value == 16 {
-        return wrong_at(at);
-    }
-    good_to(value, at + 1)
-}
-
-// A byte by two hex digits.
-pub fn read_byte(s: &[u8], before: Reading) -> Reading
-    ensures { λ r. ⌜ r ≡ answer (onward before byte (now (s .entry))) ⌝ }
-{
-    let high = read_half(s, before);
-    let low = read_half(s, high);
-    let at = low.place;
-    if !low.good {
-        return wrong_at(at);
-    }
-    good_to(high.value * 16 + low.value, at)
 }

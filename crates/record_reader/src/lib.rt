@@ -1,11 +1,11 @@
 // Key records read from text (document 01, "Key records"): one from the front of a text.
 use algorithms::name;
 use fields::Fields;
+use hex_reading::read_byte;
 use lines::column_of;
 use lines::line_of;
 use reading::Reading;
 use reading::good_to;
-use reading::read_byte;
 use reading::read_line;
 use reading::read_literal;
 use reading::read_one_of;

@@ -22,7 +22,7 @@ use Rattle.fields.specs.declared.Fields.{Fields}
 use Rattle.record_text.specs.Text.{linesText, formText, recordText, InCode, Good}
 use Rattle.forms.specs.Form.{Outcome, found, wrong, readAt, literal, _>>=_}
 use Rattle.record_reader.specs.Record.{Entry, linesForm, recordForm, startsForm, entryRead, refusedAt, readAnswer, recordRead}
-use Rattle.lines.specs.Line.{lineEnds, lineOf, placeOf}
+use Rattle.lines.specs.Line.{lineEnds, lineOf, placeAt}
 use Rattle.lines.proofs.Ends.{place-named}
 use Rattle.record_writer.specs.Written.{recordWritten, bufferWritten}
 use Rattle.forms.proofs.Forms.{Spells, reads, spelt, Stop, stops, stop-within}
@@ -193,11 +193,11 @@ one-place s p q a b =
     (lt-or-le p q)
 
 -- line and column name that place
-pub names : (s : List ℕ) (r : Refused s) → placeOf s (recordRead s .line) (recordRead s .column) ≡ r .place
-names s r = (λ i. placeOf s (r .answer i .line) (r .answer i .column)) ∙ place-named s (r .place) (r .stuck .within)
+pub names : (s : List ℕ) (r : Refused s) → placeAt s (recordRead s .line) (recordRead s .column) ≡ r .place
+names s r = (λ i. placeAt s (r .answer i .line) (r .answer i .column)) ∙ place-named s (r .place) (r .stuck .within)
 
 -- so at the place that they name the bytes before it begin some good record, and with the byte there, if there is one, they begin none
-pub stuck-there : (s : List ℕ) → (recordRead s .refusal ≡ done → ⊥) → Stuck s (placeOf s (recordRead s .line) (recordRead s .column))
+pub stuck-there : (s : List ℕ) → (recordRead s .refusal ≡ done → ⊥) → Stuck s (placeAt s (recordRead s .line) (recordRead s .column))
 stuck-there s n = ⊎-elim (λ e. absurd (n e)) (λ r. subst (Stuck s) (sym (names s r)) (r .stuck)) (read-or-refused s)
 
 -- a text that is read has neither

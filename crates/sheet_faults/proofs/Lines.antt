@@ -13,7 +13,7 @@ use Rattle.writing.specs.Text.{lf}
 use Rattle.lines.specs.Line.{indexOf, upTo, pieceLength}
 use Rattle.lines.proofs.Pieces.{piece-within, piece-some}
 use Rattle.line_parts.specs.Line.{valueIn}
-use Rattle.line_faults.specs.Names.{nameCount, numberIn, hasName}
+use Rattle.line_names.specs.Names.{nameCount, numberIn, hasName}
 use Rattle.line_faults.specs.Faults.{hasFault}
 use Rattle.line_faults.specs.declared.Fault.{Fault}
 use Rattle.sheet_faults.specs.Sheet.{ontoFirst, linesOf, timesNamed, valueNamed, anyFault, inOrderFrom, namesRightFrom}

@@ -8,7 +8,7 @@ use lib.ListN.{length}
 use Rattle.laws.specs.Choice.{pick}
 use Rattle.writing.specs.Text.{lf}
 use Rattle.line_parts.specs.Line.{endsWith, valueIn}
-use Rattle.line_faults.specs.Names.{formName, nameCount, numberIn, hasName}
+use Rattle.line_names.specs.Names.{formName, nameCount, numberIn, hasName}
 use Rattle.line_faults.specs.Faults.{hasFault}
 use Rattle.line_faults.specs.declared.Fault.{Fault}
 

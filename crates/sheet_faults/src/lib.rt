@@ -1,9 +1,8 @@
 // The lines of a damaged record sheet (document 02, [12]): which names they have, in which order, and when that is refused with 25.
 use line_faults::Fault;
 use line_faults::has_fault;
-use line_faults::names;
-use line_faults::names::has_name;
-use line_faults::names::number_in;
+use line_names::has_name;
+use line_names::number_in;
 use line_parts::ends_with;
 use line_parts::front;
 use line_parts::rest;
@@ -17,7 +16,7 @@ ghost use lib.ListN.{length, drop};
 ghost use Rattle.laws.specs.Choice.{pick};
 ghost use Rattle.writing.specs.Text.{lf};
 ghost use Rattle.lines.specs.Line.{upTo, pieceLength};
-ghost use Rattle.line_faults.specs.Names.{hasName};
+ghost use Rattle.line_names.specs.Names.{hasName};
 ghost use Rattle.sheet_faults.specs.Sheet.{linesOf, timesNamed, isFormTwo, valueNamed, anyFault, inOrderFrom, namesRight, sheetBad};
 
 // The bytes of a text, at most.
@@ -138,7 +137,7 @@ fn names_right(text: &[u8]) -> bool
 {
     let two = is_form_two(text);
     let mut k = 0;
-    while k <= names::NAMES {
+    while k <= line_names::NAMES {
         if !is_named_right(text, two, k) {
             return false;
         }

@@ -4,4 +4,3 @@ pub mod Stores
 pub mod Alone
 pub mod Tail
 pub mod Stream
-pub mod Blocks

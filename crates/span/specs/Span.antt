@@ -1,10 +1,9 @@
--- Runs of bits in a buffer: xored with a stream, written from one, zeroed; the stream of a keystream's blocks, and how many of them a run uses.
+-- Runs of bits in a buffer: xored with a stream, written from one, zeroed; and the stream of a keystream's blocks.
 -- Bits are numbered from 0, bit 0 of a byte is its most significant, and a stream gives each bit by its number. Assumes nothing: these are definitions.
-use mathlib.Core.Bool.{Bool, not, _&&_}
 use mathlib.Core.List.{List, [], _∷_, _++_}
 use Prim.Native.Nat.{ℕ, _+_, _-_, _/_, _%_}
 use lib.Bits.{bitXor}
-use lib.Dec.{ltb, leb, eqb}
+use lib.Dec.{ltb, leb}
 use lib.ListN.{length}
 use Rattle.laws.specs.Choice.{pick}
 use Rattle.laws.specs.Bits.{bitAt, bytesOfBits}
@@ -51,23 +50,3 @@ framed k = 0 ∷ (k ++ (0 ∷ 0 ∷ []))
 -- Bit i of the stream of the blocks b 0, b 1, .., of 256 bits each: bit 256r + 8s + t is bit t of byte s of block r (document 000, clause 5.4).
 unfoldable pub streamBit : (ℕ → List ℕ) → ℕ → ℕ
 streamBit b i = bitAt (b (i / 256)) (i % 256)
-
--- How many different blocks hold one of the n bits from `skip` on: from the first bit's block to the last bit's, and none for no bit.
-unfoldable pub blocksUsed : ℕ → ℕ → ℕ
-blocksUsed skip n = pick (eqb n 0) 0 ((skip + n - 1) / 256 - skip / 256 + 1)
-
--- The number after that of the last block that holds one of the n bits from `skip` on, and `next` for no bit.
-unfoldable pub blockAfter : ℕ → ℕ → ℕ → ℕ
-blockAfter next skip n = pick (eqb n 0) next ((skip + n - 1) / 256 + 1)
-
--- The last bit of one run and the first bit of another are in one block.
-abbrev pub shareBlock : ℕ → ℕ → ℕ → ℕ → Bool
-shareBlock skip n skip₂ n₂ = not (eqb n 0) && not (eqb n₂ 0) && eqb ((skip + n - 1) / 256) (skip₂ / 256)
-
--- How many different blocks hold a bit of one of two runs, the second behind the first: the blocks of each, less the one that both use.
-unfoldable pub blocksOfBoth : ℕ → ℕ → ℕ → ℕ → ℕ
-blocksOfBoth skip n skip₂ n₂ = blocksUsed skip n + blocksUsed skip₂ n₂ - pick (shareBlock skip n skip₂ n₂) 1 0
-
--- How many blocks n bits use at most, wherever they start (document 02, [10]).
-abbrev pub mostBlocks : ℕ → ℕ
-mostBlocks n = (n + 254) / 256 + 1

@@ -9,10 +9,11 @@ use borrow.Author.Tests.{eq-eqb, ne-eqb, lt-ltb, le-ltb}
 use lib.ListN.{length, getD}
 use Rattle.slots.specs.declared.Slot.{Slot}
 use Rattle.slots.specs.Slots.{slotAt}
-use Rattle.span.specs.Span.{longestBuffer, longestStream, xored, mostBlocks}
+use Rattle.span.specs.Span.{longestBuffer, longestStream, xored}
+use Rattle.block_counts.specs.Counts.{mostBlocks}
 use Rattle.span.proofs.Laws.{length-xored, xored-join, xored-twice}
 use Rattle.span.proofs.Stream.{stream-lt}
-use Rattle.span.proofs.Blocks.{UsedBlock, Enumerates, blocks-counted, used-bound, used-most, used-beyond, used-to-end}
+use Rattle.block_counts.proofs.Blocks.{UsedBlock, Enumerates, blocks-counted, used-bound, used-most, used-beyond, used-to-end}
 use Rattle.ciphering.specs.Span.{spanRefusal}
 use Rattle.traffic.proofs.Passed.{traffic-passed-of}
 use Rattle.traffic.specs.Traffic.{slotStream, useRefusalOf, trafficRefusalOf, traffickedOf, trafficBlocksOf, trafficRefusal, trafficked, trafficBlocks}

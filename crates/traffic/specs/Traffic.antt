@@ -16,7 +16,8 @@ use Rattle.slots.specs.declared.Slot.{Slot}
 use Rattle.slots.specs.Slots.{hasBad, slotAt}
 use Rattle.rights.specs.Rights.{isDirection, includes}
 use Rattle.slot_calls.specs.Calls.{slotRefusalOf}
-use Rattle.span.specs.Span.{xored, blocksUsed}
+use Rattle.span.specs.Span.{xored}
+use Rattle.block_counts.specs.Counts.{blocksUsed}
 use Rattle.keystream.specs.Stream.{keystream}
 use Rattle.ciphering.specs.Span.{spanRefusal, Ciphered, cipheredAs}
 

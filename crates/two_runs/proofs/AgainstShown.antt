@@ -6,7 +6,7 @@ use native.Mathlib.Omega.{arith}
 use lib.ListN.{length, length-append, length-replicate, replicate}
 use Rattle.fields.specs.declared.Fields.{Fields}
 use Rattle.slot_calls.specs.Calls.{shown}
-use Rattle.span.specs.Span.{blocksUsed}
+use Rattle.block_counts.specs.Counts.{blocksUsed}
 use Rattle.span.proofs.Laws.{length-xored}
 use Rattle.keystream.specs.Stream.{keystream}
 use Rattle.ciphering.specs.Span.{spanRefusal}

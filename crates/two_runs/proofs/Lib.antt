@@ -1,11 +1,4 @@
-pub mod Local
-pub mod Facts
 pub mod Start
-pub mod Related
-pub mod Agree
-pub mod Demand
-pub mod Corollaries
-pub mod Service
 pub mod Against
 pub mod AgainstAnswers
 pub mod AgainstRuns
@@ -15,8 +8,3 @@ pub mod AgainstShown
 pub mod AgainstSends
 pub mod AgainstTraces
 pub mod AgainstStart
-pub mod Example
-pub mod Steps
-pub mod Lent
-pub mod Entries
-pub mod Sessions

@@ -1,14 +1,11 @@
--- A card, by what its calls do, and our card: the definitions that the contracts of its public calls cite. Assumes nothing: these are definitions.
+-- A card, by what its calls do. Assumes nothing: these are definitions.
 use mathlib.Core.List.{List}
 use Prim.Native.Nat.{ℕ}
 use Rattle.fields.specs.declared.Asked.{Asked}
 use Rattle.slots.specs.declared.Slot.{Slot}
 use Rattle.slot_calls.specs.declared.Changed.{Changed}
 use Rattle.slot_calls.specs.declared.Shown.{Shown}
-use Rattle.slot_calls.specs.Calls.{loaded, moved, cleared, shown}
-use Rattle.traffic.specs.Traffic.{trafficRefusal, trafficBlocks, trafficked}
 use Rattle.whole.specs.declared.Pdu.{Pdu}
-use Rattle.whole.specs.Whole.{wholeRefusal, wholeBlocks, wholed}
 use Rattle.two_runs.specs.Calls.{Use, Work, span, pdu, Call, load, move, clear, read, traffic}
 use Rattle.two_runs.specs.Step.{Step, changing, reading, ciphering}
 
@@ -57,6 +54,3 @@ cardBy loads moves clears reads refusal blocks buffer refusesPdu countsPdu write
   read = λ table number. reading table (reads table number);
   traffic = trafficBy refusal blocks buffer refusesPdu countsPdu writesPdu;
 }
-
-abbrev pub ourCard : Card
-ourCard = cardBy loaded moved cleared shown trafficRefusal trafficBlocks trafficked wholeRefusal wholeBlocks wholed

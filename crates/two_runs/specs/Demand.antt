@@ -61,16 +61,16 @@ withUse s usage = record {
 }
 
 -- what a load gives; another call gives nothing, and is no key's origin
-abbrev pub loadedBy : Call → Slot
-loadedBy (load number a key) = record { fields = storedOf a; key = key }
-loadedBy (move from to asked) = nil
-loadedBy (clear number) = nil
-loadedBy (read number) = nil
-loadedBy (traffic how buf w) = nil
+abbrev pub slotLoaded : Call → Slot
+slotLoaded (load number a key) = record { fields = storedOf a; key = key }
+slotLoaded (move from to asked) = nil
+slotLoaded (clear number) = nil
+slotLoaded (read number) = nil
+slotLoaded (traffic how buf w) = nil
 
 -- what an origin gave: a load what it loads, a slot at the start what it held then
 abbrev pub given : List Slot → List Call → Origin → Slot
-given table cs (loadAt place) = loadedBy (callAt cs place)
+given table cs (loadAt place) = slotLoaded (callAt cs place)
 given table cs (present number) = slotAt table number
 
 -- a send, with an initial value that has the place of these fields, and is on their send side there

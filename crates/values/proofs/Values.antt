@@ -12,7 +12,7 @@ use Rattle.gf256.specs.Field.{times, inverse, affine, sBox}
 use Rattle.algorithms.specs.Combining.{fTea6}
 use Rattle.algorithms.specs.Algorithm.{combining, digitOf, nameOf}
 use Rattle.tea.specs.Mixing.{expandedByte, mixedValue}
-use Rattle.span.specs.Span.{blocksUsed}
+use Rattle.block_counts.specs.Counts.{blocksUsed}
 use Rattle.slots.specs.Slots.{allZero, isEmpty, isFilled, isBad, hasBad}
 use Rattle.slot_calls.specs.Calls.{moveRefusalOf}
 use Rattle.writing.specs.Text.{digitsWithin, digits, hexDigit, hexText}

@@ -5,7 +5,7 @@ use lib.ListN.{getD, replicate}
 use Rattle.gf256.specs.Field.{times, sBox}
 use Rattle.algorithms.specs.Algorithm.{combining}
 use Rattle.tea.specs.Mixing.{expandedByte, mixedValue}
-use Rattle.span.specs.Span.{blocksUsed}
+use Rattle.block_counts.specs.Counts.{blocksUsed}
 use Rattle.fields.specs.Fields.{askedOf}
 use Rattle.slots.specs.declared.Slot.{Slot}
 use Rattle.slots.specs.Slots.{empty}

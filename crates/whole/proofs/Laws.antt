@@ -15,7 +15,7 @@ use Rattle.span.specs.Span.{longestBuffer}
 use Rattle.span.proofs.Within.{Binary, Beside}
 use Rattle.span.proofs.Laws.{Bytes, length-xored, xored-none, xored-bytes, xored-swap, xored-twice}
 use Rattle.span.proofs.Stream.{stream-lt}
-use Rattle.span.proofs.Blocks.{UsedBlock, Enumerates, both-bound, both-counted}
+use Rattle.block_counts.proofs.Blocks.{UsedBlock, Enumerates, both-bound, both-counted}
 use Rattle.plan.specs.declared.Piece.{Piece}
 use Rattle.plan.specs.declared.Plan.{Plan}
 use Rattle.plan.specs.Plan.{noPiece}

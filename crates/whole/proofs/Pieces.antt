@@ -10,7 +10,7 @@ use lib.ListN.{length}
 use Rattle.laws.proofs.Cases.{and-left, and-right}
 use Rattle.span.specs.Span.{xored}
 use Rattle.span.proofs.Laws.{Bytes, xored-none, xored-same}
-use Rattle.span.proofs.Blocks.{used-none, both-none, both-pos}
+use Rattle.block_counts.proofs.Blocks.{used-none, both-none, both-pos}
 use Rattle.plan.specs.declared.Piece.{Piece}
 use Rattle.plan.specs.declared.Plan.{Plan}
 use Rattle.plan.proofs.Sound.{Taken, Behind, Sound, none, one, two}

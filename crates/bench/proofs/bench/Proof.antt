@@ -4,8 +4,9 @@ use native.Mathlib.Omega.{arith}
 use lib.ListN.{length}
 use borrow.Author.Needs.{needs}
 use borrow.Author.Tests.{eq-eqb, ne-eqb}
-use Rattle.span.specs.Span.{written, blocksUsed}
-use Rattle.span.proofs.Blocks.{used-pos}
+use Rattle.span.specs.Span.{written}
+use Rattle.block_counts.specs.Counts.{blocksUsed}
+use Rattle.block_counts.proofs.Blocks.{used-pos}
 use Rattle.keystream.specs.Stream.{keystream}
 use Rattle.bench.specs.Bench.{benchRefusal, benched, benchBlocks}
 use Rattle.ciphering.proofs.Answers.{ciphered-is}

@@ -2,7 +2,7 @@
 use mathlib.Core.Path.{ap, _∙_}
 use mathlib.Core.Bool.{_&&_}
 use borrow.Author.Needs.{needs}
-use Rattle.lines.specs.Parts.{areBytes}
+use Rattle.line_values.specs.Parts.{areBytes}
 use Rattle.case_reader.proofs.bytes_readable.Statement.{statement}
 use Rattle.case_reader.proofs.bytes_readable.Tie as tie
 

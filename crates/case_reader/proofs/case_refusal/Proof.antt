@@ -6,9 +6,9 @@ use lib.ListN.{length}
 use borrow.Author.Needs.{needs}
 use Rattle.bench.specs.Bench.{keyedRefusal}
 use Rattle.lines.specs.Line.{part}
-use Rattle.lines.specs.Parts.{bytesOf}
+use Rattle.line_values.specs.Parts.{bytesOf}
 use Rattle.case_reader.specs.Case.{lastPart, caseOf}
-use Rattle.lines.proofs.Hexes.{length-bytes}
+use Rattle.line_values.proofs.Hexes.{length-bytes}
 use Rattle.case_reader.proofs.case_refusal.Statement.{statement}
 use Rattle.case_reader.proofs.case_refusal.Tie as tie
 

@@ -1,7 +1,7 @@
 -- `case_reader::is_bytes`: the part as it stands. Assumes nothing.
 use mathlib.Core.Path.{ap, _∙_}
 use borrow.Author.Needs.{needs}
-use Rattle.lines.specs.Parts.{areBytes}
+use Rattle.line_values.specs.Parts.{areBytes}
 use Rattle.case_reader.proofs.is_bytes.Statement.{statement}
 use Rattle.case_reader.proofs.is_bytes.Tie as tie
 

@@ -4,7 +4,7 @@ use mathlib.Core.Path.{sym, ap, _∙_}
 use Prim.Native.Nat.{ℕ, _/_}
 use lib.ListN.{length}
 use borrow.Author.Needs.{needs}
-use Rattle.lines.specs.Parts.{areBytes, bytesOf}
+use Rattle.line_values.specs.Parts.{areBytes, bytesOf}
 use Rattle.case_reader.specs.Case.{caseOf}
 use Rattle.case_reader.proofs.Passed.{key-readable, key-size}
 use Rattle.case_reader.proofs.key_of.Statement.{statement}

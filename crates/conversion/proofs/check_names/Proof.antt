@@ -5,7 +5,7 @@ use native.Mathlib.Omega.{arith}
 use borrow.Author.Needs.{needs}
 use borrow.Author.Tests.{lt-ltb, le-ltb, eq-eqb, ne-eqb}
 use lib.Dec.{eqb, ltb}
-use Rattle.conversion.specs.Pairs.{pairCount, firstMisnaming}
+use Rattle.conversion_pairs.specs.Pairs.{pairCount, firstMisnaming}
 use Rattle.conversion.specs.Conversion.{checkedAs, namesChecked}
 use Rattle.conversion.proofs.check_names.Statement.{statement}
 use Rattle.conversion.proofs.check_names.Tie as tie

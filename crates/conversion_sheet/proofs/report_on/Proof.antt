@@ -7,7 +7,7 @@ use borrow.Author.Needs.{needs}
 use borrow.Author.Tests.{lt-ltb, le-ltb}
 use lib.ListN.{length, take, drop, replicate, length-drop}
 use lib.Seq.{take-all, take-at, length-take-le}
-use Rattle.conversion.specs.Pairs.{pairCount}
+use Rattle.conversion_pairs.specs.Pairs.{pairCount}
 use Rattle.conversion.specs.Conversion.{conversionChecked}
 use Rattle.conversion_sheet.specs.declared.input.Numbers.{Numbers}
 use Rattle.conversion_sheet.specs.Input.{textSize, firstText, behind, pairNumbers, pairsRead}

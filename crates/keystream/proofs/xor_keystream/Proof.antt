@@ -4,7 +4,7 @@ use native.Mathlib.Omega.{arith}
 use borrow.Author.Needs.{needs}
 use Rattle.span.proofs.Laws.{xored-none, xored-bytes}
 use Rattle.span.proofs.Stream.{stream-lt}
-use Rattle.span.proofs.Blocks.{both-none}
+use Rattle.block_counts.proofs.Blocks.{both-none}
 use Rattle.keystream.specs.Stream.{keystream}
 use Rattle.keystream.proofs.xor_keystream.Statement.{statement}
 use Rattle.keystream.proofs.xor_keystream.Tie as tie

@@ -7,10 +7,11 @@ use native.Mathlib.Omega.{arith}
 use borrow.Author.Needs.{needs}
 use lib.ListN.{length, getD}
 use Rattle.laws.specs.Bits.{bitAt}
-use Rattle.span.specs.Span.{streamBit, xored, blockAfter}
+use Rattle.span.specs.Span.{streamBit, xored}
+use Rattle.block_counts.specs.Counts.{blockAfter}
 use Rattle.span.proofs.Laws.{xored-none, length-xored}
 use Rattle.span.proofs.Stream.{xored-stretch}
-use Rattle.span.proofs.Blocks.{after-none}
+use Rattle.block_counts.proofs.Blocks.{after-none}
 use Rattle.tea.specs.Keystream.{blockOf}
 use Rattle.keystream.specs.declared.Work.{Work}
 use Rattle.keystream.specs.Work.{Held}

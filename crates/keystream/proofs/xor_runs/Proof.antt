@@ -5,7 +5,8 @@ use Prim.Native.Nat.{ℕ, _+_, _-_, _/_, _<_, _≤_, max}
 use native.Mathlib.Omega.{arith}
 use borrow.Author.Needs.{needs}
 use lib.ListN.{length}
-use Rattle.span.specs.Span.{streamBit, blockAfter}
+use Rattle.span.specs.Span.{streamBit}
+use Rattle.block_counts.specs.Counts.{blockAfter}
 use Rattle.span.proofs.Laws.{length-xored}
 use Rattle.tea.specs.declared.mode.Mode.{Mode}
 use Rattle.tea.specs.Keystream.{blockOf}

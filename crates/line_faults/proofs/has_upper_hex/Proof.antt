@@ -2,7 +2,7 @@
 use mathlib.Core.Path.{sym, ap, _∙_}
 use borrow.Author.Needs.{needs}
 use borrow.Author.Tests.{eq-eqb, ne-eqb}
-use Rattle.line_faults.specs.Names.{keyName}
+use Rattle.line_names.specs.Names.{keyName}
 use Rattle.line_faults.specs.Faults.{anyUpperHex}
 use Rattle.line_faults.proofs.has_upper_hex.Statement.{statement}
 use Rattle.line_faults.proofs.has_upper_hex.Tie as tie

@@ -21,19 +21,8 @@ returns c = omega (arith, leading-other _ (c .before .before .before .before .ar
 loop-again : tie.Need-loop-again Inv-loop μ-loop
 loop-again c = omega (arith, leading-on _ (c .before .before .before .before .args .s .now) _ (c .before .before .loop-test .taken) (c .if1 .left))
 
-returns-2 : tie.Need-returns-2 Inv-loop μ-loop
-returns-2 c = omega (arith, leading-end (c .before .before .args .b) (c .before .before .args .s .now) _ (c .loop-test .left))
-
 pub leading-spec : {M : Type 1} → statement M
 leading-spec =
     tie.close
-    (tie.spec
-    Inv-loop
-    μ-loop
-    (λ c. search needs)
-    (λ c. search needs)
-    returns
-    (λ c. search needs)
-    (λ c. search needs)
-    loop-again
-    returns-2)
+    (tie.spec Inv-loop μ-loop (λ c. search needs) (λ c. search needs) returns (λ c. search needs) (λ c. search needs) loop-again
+    (λ c. omega (arith, leading-end (c .before .before .args .b) (c .before .before .args .s .now) _ (c .loop-test .left))))

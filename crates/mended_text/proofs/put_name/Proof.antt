@@ -7,7 +7,7 @@ use borrow.Author.Needs.{needs}
 use Rattle.writing.proofs.Puts.{put-as, put-then, put-length, room-as, room-first, room-then}
 use Rattle.lines.proofs.Pieces.{index-within}
 use Rattle.line_parts.specs.Line.{equals}
-use Rattle.line_faults.specs.Names.{nameText}
+use Rattle.line_names.specs.Names.{nameText}
 use Rattle.mended_text.proofs.put_name.Statement.{statement}
 use Rattle.mended_text.proofs.put_name.Tie as tie
 

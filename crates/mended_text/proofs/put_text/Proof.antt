@@ -5,7 +5,7 @@ use native.Mathlib.Omega.{arith}
 use borrow.Author.Needs.{needs}
 use Rattle.writing.proofs.Puts.{put-length}
 use Rattle.writing.proofs.Left.{Left, left-all, left-as, left-next, left-none, next-room}
-use Rattle.line_faults.specs.Names.{nameCount}
+use Rattle.line_names.specs.Names.{nameCount}
 use Rattle.sheet_faults.specs.Sheet.{linesOf}
 use Rattle.mended_text.specs.Text.{linesMended, textMended}
 use Rattle.mended_text.proofs.Laws.{lines-next, lines-none, text-lines}

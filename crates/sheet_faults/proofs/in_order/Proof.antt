@@ -5,7 +5,7 @@ use native.Mathlib.Omega.{arith}
 use lib.ListN.{length, drop}
 use borrow.Author.Needs.{needs}
 use Rattle.line_parts.specs.Line.{nameIn}
-use Rattle.line_faults.proofs.Same.{number-most}
+use Rattle.line_names.proofs.Same.{number-most}
 use Rattle.sheet_faults.specs.Sheet.{linesOf, inOrderFrom}
 use Rattle.sheet_faults.proofs.Lines.{lines-end, order-here, order-on}
 use Rattle.sheet_faults.proofs.in_order.Statement.{statement}

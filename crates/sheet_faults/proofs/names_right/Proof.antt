@@ -5,7 +5,7 @@ use Prim.Native.Nat.{_-_, _+_}
 use native.Mathlib.Omega.{arith}
 use borrow.Author.Needs.{needs}
 use borrow.Author.Tests.{eqb-true, eqb-false, not-true, not-false}
-use Rattle.line_faults.specs.Names.{nameCount}
+use Rattle.line_names.specs.Names.{nameCount}
 use Rattle.sheet_faults.specs.Sheet.{linesOf, namesRightFrom, namesRight}
 use Rattle.sheet_faults.proofs.Lines.{names-on, names-wrong, names-all}
 use Rattle.sheet_faults.proofs.names_right.Statement.{statement}

@@ -6,7 +6,7 @@ use lib.Dec.{eqb}
 use lib.ListN.{length, drop}
 use borrow.Author.Needs.{needs}
 use Rattle.laws.specs.Choice.{pick}
-use Rattle.line_faults.specs.Names.{numberIn}
+use Rattle.line_names.specs.Names.{numberIn}
 use Rattle.sheet_faults.specs.Sheet.{linesOf, timesNamed}
 use Rattle.sheet_faults.proofs.Lines.{lines-end, times-on, at-most-one}
 use Rattle.sheet_faults.proofs.times_named.Statement.{statement}

@@ -13,10 +13,10 @@ use Rattle.slot_list.proofs.SlotLaws.{R, FieldsRow, fields-makes, fields-typed,
 use Rattle.slot_list.proofs.SlotCalls.{IsNoTable, FieldsIn, PutSlot, lent, slice, lends-ask, lends-fields, puts-slot}
 use Rattle.card.proofs.Answers.{changed-is}
 use Rattle.card.proofs.SeenTables.{cleared-in}
-use Rattle.slot_calls.proofs.clear_of as core
-use Rattle.slot_calls.proofs.clear_of.Symbol as core-def
-use Rattle.slot_calls.proofs.clear_of.Symbol.{name as #core}
-use Rattle.slot_calls.proofs.clear_of.Met as core-thm
+use Rattle.slot_puts.proofs.clear_of as core
+use Rattle.slot_puts.proofs.clear_of.Symbol as core-def
+use Rattle.slot_puts.proofs.clear_of.Symbol.{name as #core}
+use Rattle.slot_puts.proofs.clear_of.Met as core-thm
 use Rattle.slot_list.proofs.is_no_table.Symbol as is-no-table-def
 use Rattle.slot_list.proofs.is_no_table.Symbol.{name as #is-no-table}
 use Rattle.slot_list.proofs.is_no_table.Met as is-no-table-thm
@@ -104,5 +104,5 @@ card-clear-spec 𝓤 H 𝓜 𝓖 𝓡 =
     (meets 𝓤 H (𝓖 .A) (givenOf 𝓤 H 𝓜 𝓖) (𝓜 .mem) (𝓡 .run) (tablesOf 𝓤 H 𝓜 (tables 𝓤 H 𝓜 𝓡 code.env))
     (cited 𝓤 H (IsNoTable 𝓤 H (𝓖 .A) (𝓜 .mem) (𝓡 .run)) 𝓜 𝓡 code.env #is-no-table is-no-table-def.routine code.calls-slot-list·is-no-table (is-no-table-thm.met 𝓤 H 𝓜 𝓖 𝓡))
     (cited 𝓤 H (FieldsIn 𝓤 H (𝓖 .A) (𝓜 .mem) (𝓡 .run)) 𝓜 𝓡 code.env #fields-in fields-in-def.routine code.calls-slot-list·fields-in (fields-in-thm.met 𝓤 H 𝓜 𝓖 𝓡))
-    (cited 𝓤 H (Core 𝓤 H (𝓖 .A) (𝓜 .mem) (𝓡 .run)) 𝓜 𝓡 code.env #core core-def.routine code.calls-slot-calls·clear-of (core-thm.met 𝓤 H 𝓜 𝓖 𝓡))
+    (cited 𝓤 H (Core 𝓤 H (𝓖 .A) (𝓜 .mem) (𝓡 .run)) 𝓜 𝓡 code.env #core core-def.routine code.calls-slot-puts·clear-of (core-thm.met 𝓤 H 𝓜 𝓖 𝓡))
     (cited 𝓤 H (PutSlot 𝓤 H (𝓖 .A) (𝓜 .mem) (𝓡 .run)) 𝓜 𝓡 code.env #put-slot put-slot-def.routine code.calls-slot-list·put-slot (put-slot-thm.met 𝓤 H 𝓜 𝓖 𝓡)))

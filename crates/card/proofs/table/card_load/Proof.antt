@@ -6,7 +6,7 @@ use Rattle.fields.specs.declared.Asked.{Asked}
 use Rattle.slots.specs.declared.Slot.{Slot}
 use Rattle.slots.specs.Slots.{keyless}
 use Rattle.slot_calls.specs.Seen.{loadPut}
-use Rattle.card.specs.Faces.{asking}
+use Rattle.faces.specs.Faces.{asking}
 use Rattle.slot_list.specs.List.{isNoTable, fieldsIn}
 use Rattle.card.specs.Table.{loadedIn}
 use Rattle.walks.proofs.CallRules.{Of, calls-fn}
@@ -16,10 +16,10 @@ use Rattle.slot_list.proofs.SlotLaws.{R, FieldsRow, fields-makes, fields-typed,
 use Rattle.slot_list.proofs.SlotCalls.{IsNoTable, FieldsIn, PutSlot, lent, slice, lends-ask, lends-fields, puts-slot, with-seen}
 use Rattle.card.proofs.Answers.{changed-is}
 use Rattle.card.proofs.SeenTables.{loaded-in}
-use Rattle.card.proofs.table.load_from as core
-use Rattle.card.proofs.table.load_from.Symbol as core-def
-use Rattle.card.proofs.table.load_from.Symbol.{name as #core}
-use Rattle.card.proofs.table.load_from.Met as core-thm
+use Rattle.faces.proofs.load_from as core
+use Rattle.faces.proofs.load_from.Symbol as core-def
+use Rattle.faces.proofs.load_from.Symbol.{name as #core}
+use Rattle.faces.proofs.load_from.Met as core-thm
 use Rattle.slot_list.proofs.is_no_table.Symbol as is-no-table-def
 use Rattle.slot_list.proofs.is_no_table.Symbol.{name as #is-no-table}
 use Rattle.slot_list.proofs.is_no_table.Met as is-no-table-thm
@@ -148,5 +148,5 @@ card-load-spec 𝓤 H 𝓜 𝓖 𝓡 =
     (meets 𝓤 H (𝓖 .A) (givenOf 𝓤 H 𝓜 𝓖) (𝓜 .mem) (𝓡 .run) (tablesOf 𝓤 H 𝓜 (tables 𝓤 H 𝓜 𝓡 code.env))
     (cited 𝓤 H (IsNoTable 𝓤 H (𝓖 .A) (𝓜 .mem) (𝓡 .run)) 𝓜 𝓡 code.env #is-no-table is-no-table-def.routine code.calls-slot-list·is-no-table (is-no-table-thm.met 𝓤 H 𝓜 𝓖 𝓡))
     (cited 𝓤 H (FieldsIn 𝓤 H (𝓖 .A) (𝓜 .mem) (𝓡 .run)) 𝓜 𝓡 code.env #fields-in fields-in-def.routine code.calls-slot-list·fields-in (fields-in-thm.met 𝓤 H 𝓜 𝓖 𝓡))
-    (cited 𝓤 H (Core 𝓤 H (𝓖 .A) (𝓜 .mem) (𝓡 .run)) 𝓜 𝓡 code.env #core core-def.routine code.calls-card·table·load-from (core-thm.met 𝓤 H 𝓜 𝓖 𝓡))
+    (cited 𝓤 H (Core 𝓤 H (𝓖 .A) (𝓜 .mem) (𝓡 .run)) 𝓜 𝓡 code.env #core core-def.routine code.calls-faces·load-from (core-thm.met 𝓤 H 𝓜 𝓖 𝓡))
     (cited 𝓤 H (PutSlot 𝓤 H (𝓖 .A) (𝓜 .mem) (𝓡 .run)) 𝓜 𝓡 code.env #put-slot put-slot-def.routine code.calls-slot-list·put-slot (put-slot-thm.met 𝓤 H 𝓜 𝓖 𝓡)))

@@ -19,14 +19,14 @@ use Rattle.slot_list.proofs.SlotLaws.{R, makes, typed, FieldsRow, fields-makes,
 use Rattle.slot_list.proofs.SlotCalls.{IsNoTable, FieldsIn, SlotIn, PutSlot, lent, slice, lends-ask, lends-fields, lends-slot, lends-put, puts-slot}
 use Rattle.card.proofs.Answers.{changed-is}
 use Rattle.card.proofs.SeenTables.{carried-within, moved-in}
-use Rattle.slot_calls.proofs.emptied as emptied
-use Rattle.slot_calls.proofs.emptied.Symbol as emptied-def
-use Rattle.slot_calls.proofs.emptied.Symbol.{name as #emptied}
-use Rattle.slot_calls.proofs.emptied.Met as emptied-thm
-use Rattle.slot_calls.proofs.move_of as core
-use Rattle.slot_calls.proofs.move_of.Symbol as core-def
-use Rattle.slot_calls.proofs.move_of.Symbol.{name as #core}
-use Rattle.slot_calls.proofs.move_of.Met as core-thm
+use Rattle.slot_puts.proofs.emptied as emptied
+use Rattle.slot_puts.proofs.emptied.Symbol as emptied-def
+use Rattle.slot_puts.proofs.emptied.Symbol.{name as #emptied}
+use Rattle.slot_puts.proofs.emptied.Met as emptied-thm
+use Rattle.slot_puts.proofs.move_of as core
+use Rattle.slot_puts.proofs.move_of.Symbol as core-def
+use Rattle.slot_puts.proofs.move_of.Symbol.{name as #core}
+use Rattle.slot_puts.proofs.move_of.Met as core-thm
 use Rattle.slot_list.proofs.is_no_table.Symbol as is-no-table-def
 use Rattle.slot_list.proofs.is_no_table.Symbol.{name as #is-no-table}
 use Rattle.slot_list.proofs.is_no_table.Met as is-no-table-thm
@@ -170,6 +170,6 @@ card-move-spec 𝓤 H 𝓜 𝓖 𝓡 =
     (cited 𝓤 H (Judge 𝓤 H (𝓖 .A) (𝓜 .mem) (𝓡 .run)) 𝓜 𝓡 code.env #judge judge-def.routine code.calls-slot-calls·move-refusal (judge-thm.met 𝓤 H 𝓜 𝓖 𝓡))
     (cited 𝓤 H (Key 𝓤 H (𝓖 .A) (𝓜 .mem) (𝓡 .run)) 𝓜 𝓡 code.env #key-slot key-def.routine code.calls-slot-calls·key-slot (key-thm.met 𝓤 H 𝓜 𝓖 𝓡))
     (cited 𝓤 H (SlotIn 𝓤 H (𝓖 .A) (𝓜 .mem) (𝓡 .run)) 𝓜 𝓡 code.env #slot-in slot-in-def.routine code.calls-slot-list·slot-in (slot-in-thm.met 𝓤 H 𝓜 𝓖 𝓡))
-    (cited 𝓤 H (Core 𝓤 H (𝓖 .A) (𝓜 .mem) (𝓡 .run)) 𝓜 𝓡 code.env #core core-def.routine code.calls-slot-calls·move-of (core-thm.met 𝓤 H 𝓜 𝓖 𝓡))
+    (cited 𝓤 H (Core 𝓤 H (𝓖 .A) (𝓜 .mem) (𝓡 .run)) 𝓜 𝓡 code.env #core core-def.routine code.calls-slot-puts·move-of (core-thm.met 𝓤 H 𝓜 𝓖 𝓡))
     (cited 𝓤 H (PutSlot 𝓤 H (𝓖 .A) (𝓜 .mem) (𝓡 .run)) 𝓜 𝓡 code.env #put-slot put-slot-def.routine code.calls-slot-list·put-slot (put-slot-thm.met 𝓤 H 𝓜 𝓖 𝓡))
-    (cited 𝓤 H (Emptied 𝓤 H (𝓖 .A) (𝓜 .mem) (𝓡 .run)) 𝓜 𝓡 code.env #emptied emptied-def.routine code.calls-slot-calls·emptied (emptied-thm.met 𝓤 H 𝓜 𝓖 𝓡)))
+    (cited 𝓤 H (Emptied 𝓤 H (𝓖 .A) (𝓜 .mem) (𝓡 .run)) 𝓜 𝓡 code.env #emptied emptied-def.routine code.calls-slot-puts·emptied (emptied-thm.met 𝓤 H 𝓜 𝓖 𝓡)))

@@ -17,7 +17,7 @@ use Rattle.whole.specs.declared.Pdu.{Pdu}
 use Rattle.whole.specs.Whole.{hasNoPiece, judgedPlan, WholeMay, wholeAfter}
 use Rattle.whole.proofs.Seen.{whole-may}
 use Rattle.slot_list.specs.List.{isNoTable, fieldsIn, slotIn}
-use Rattle.card.specs.Faces.{pduAs}
+use Rattle.faces.specs.Faces.{pduAs}
 use Rattle.card.specs.Table.{wholeAnswerIn}
 use Rattle.walks.proofs.CallRules.{plain, Of, calls-fn}
 use Rattle.walks.proofs.Heads.{same-value}
@@ -25,17 +25,17 @@ use Rattle.slot_list.proofs.SlotLaws.{R, makes, typed, fields-typed}
 use Rattle.slot_list.proofs.SlotCalls.{IsNoTable, FieldsIn, SlotIn, lent, slice, asks-table, takes-fields, takes-slot, with-seen}
 use Rattle.card.proofs.Judged.{bytes, lends-judge, with-lent, judge-back, Planned, plan-makes, plan-typed}
 use Rattle.card.proofs.SeenTables.{whole-in}
-use Rattle.card.proofs.table.pdu_from as core
-use Rattle.card.proofs.table.pdu_from.Symbol as core-def
-use Rattle.card.proofs.table.pdu_from.Symbol.{name as #core}
-use Rattle.card.proofs.table.pdu_from.Met as core-thm
+use Rattle.faces.proofs.pdu_from as core
+use Rattle.faces.proofs.pdu_from.Symbol as core-def
+use Rattle.faces.proofs.pdu_from.Symbol.{name as #core}
+use Rattle.faces.proofs.pdu_from.Met as core-thm
 use Rattle.slot_list.proofs.is_no_table.Symbol as is-no-table-def
 use Rattle.slot_list.proofs.is_no_table.Symbol.{name as #is-no-table}
 use Rattle.slot_list.proofs.is_no_table.Met as is-no-table-thm
-use Rattle.card.proofs.table.plan_from as judge
-use Rattle.card.proofs.table.plan_from.Symbol as judge-def
-use Rattle.card.proofs.table.plan_from.Symbol.{name as #judge}
-use Rattle.card.proofs.table.plan_from.Met as judge-thm
+use Rattle.faces.proofs.plan_from as judge
+use Rattle.faces.proofs.plan_from.Symbol as judge-def
+use Rattle.faces.proofs.plan_from.Symbol.{name as #judge}
+use Rattle.faces.proofs.plan_from.Met as judge-thm
 use Rattle.whole.proofs.key_slot as key
 use Rattle.whole.proofs.key_slot.Symbol as key-def
 use Rattle.whole.proofs.key_slot.Symbol.{name as #key-slot}
@@ -251,7 +251,7 @@ card-pdu-spec 𝓤 H 𝓜 𝓖 𝓡 =
     (meets 𝓤 H (𝓖 .A) (givenOf 𝓤 H 𝓜 𝓖) (𝓜 .mem) (𝓡 .run) (tablesOf 𝓤 H 𝓜 (tables 𝓤 H 𝓜 𝓡 code.env))
     (cited 𝓤 H (IsNoTable 𝓤 H (𝓖 .A) (𝓜 .mem) (𝓡 .run)) 𝓜 𝓡 code.env #is-no-table is-no-table-def.routine code.calls-slot-list·is-no-table (is-no-table-thm.met 𝓤 H 𝓜 𝓖 𝓡))
     (cited 𝓤 H (FieldsIn 𝓤 H (𝓖 .A) (𝓜 .mem) (𝓡 .run)) 𝓜 𝓡 code.env #fields-in fields-in-def.routine code.calls-slot-list·fields-in (fields-in-thm.met 𝓤 H 𝓜 𝓖 𝓡))
-    (cited 𝓤 H (Judge 𝓤 H (𝓖 .A) (𝓜 .mem) (𝓡 .run)) 𝓜 𝓡 code.env #judge judge-def.routine code.calls-card·table·plan-from (judge-thm.met 𝓤 H 𝓜 𝓖 𝓡))
+    (cited 𝓤 H (Judge 𝓤 H (𝓖 .A) (𝓜 .mem) (𝓡 .run)) 𝓜 𝓡 code.env #judge judge-def.routine code.calls-faces·plan-from (judge-thm.met 𝓤 H 𝓜 𝓖 𝓡))
     (cited 𝓤 H (Key 𝓤 H (𝓖 .A) (𝓜 .mem) (𝓡 .run)) 𝓜 𝓡 code.env #key-slot key-def.routine code.calls-whole·key-slot (key-thm.met 𝓤 H 𝓜 𝓖 𝓡))
     (cited 𝓤 H (SlotIn 𝓤 H (𝓖 .A) (𝓜 .mem) (𝓡 .run)) 𝓜 𝓡 code.env #slot-in slot-in-def.routine code.calls-slot-list·slot-in (slot-in-thm.met 𝓤 H 𝓜 𝓖 𝓡))
-    (cited 𝓤 H (Core 𝓤 H (𝓖 .A) (𝓜 .mem) (𝓡 .run)) 𝓜 𝓡 code.env #core core-def.routine code.calls-card·table·pdu-from (core-thm.met 𝓤 H 𝓜 𝓖 𝓡)))
+    (cited 𝓤 H (Core 𝓤 H (𝓖 .A) (𝓜 .mem) (𝓡 .run)) 𝓜 𝓡 code.env #core core-def.routine code.calls-faces·pdu-from (core-thm.met 𝓤 H 𝓜 𝓖 𝓡)))

@@ -8,17 +8,18 @@ use Rattle.slots.specs.Slots.{keyless}
 use Rattle.slot_calls.specs.declared.Shown.{Shown}
 use Rattle.slot_calls.specs.Calls.{shownOf}
 use Rattle.slot_list.specs.List.{isNoTable, fieldsIn}
-use Rattle.card.specs.Table.{shownAs, shownIn}
+use Rattle.card.specs.Table.{shownIn}
+use Rattle.faces.specs.Faces.{shownAs}
 use Rattle.walks.proofs.CallRules.{Of, calls-fn}
 use Rattle.slot_list.proofs.SlotLaws.{R, FieldsRow, fields-makes, fields-typed}
 use denote.Builtin.{bool}
 use denote.Plain.{bool-makes, bool-lawful}
 use Rattle.slot_list.proofs.SlotCalls.{IsNoTable, FieldsIn, lent, slice, asks-table, takes-fields, with-seen}
 use Rattle.card.proofs.SeenTables.{shown-in}
-use Rattle.card.proofs.table.show_from as core
-use Rattle.card.proofs.table.show_from.Symbol as core-def
-use Rattle.card.proofs.table.show_from.Symbol.{name as #core}
-use Rattle.card.proofs.table.show_from.Met as core-thm
+use Rattle.faces.proofs.show_from as core
+use Rattle.faces.proofs.show_from.Symbol as core-def
+use Rattle.faces.proofs.show_from.Symbol.{name as #core}
+use Rattle.faces.proofs.show_from.Met as core-thm
 use Rattle.slot_list.proofs.is_no_table.Symbol as is-no-table-def
 use Rattle.slot_list.proofs.is_no_table.Symbol.{name as #is-no-table}
 use Rattle.slot_list.proofs.is_no_table.Met as is-no-table-thm
@@ -150,4 +151,4 @@ card-read-spec 𝓤 H 𝓜 𝓖 𝓡 =
     (meets 𝓤 H (𝓖 .A) (givenOf 𝓤 H 𝓜 𝓖) (𝓜 .mem) (𝓡 .run) (tablesOf 𝓤 H 𝓜 (tables 𝓤 H 𝓜 𝓡 code.env))
     (cited 𝓤 H (IsNoTable 𝓤 H (𝓖 .A) (𝓜 .mem) (𝓡 .run)) 𝓜 𝓡 code.env #is-no-table is-no-table-def.routine code.calls-slot-list·is-no-table (is-no-table-thm.met 𝓤 H 𝓜 𝓖 𝓡))
     (cited 𝓤 H (FieldsIn 𝓤 H (𝓖 .A) (𝓜 .mem) (𝓡 .run)) 𝓜 𝓡 code.env #fields-in fields-in-def.routine code.calls-slot-list·fields-in (fields-in-thm.met 𝓤 H 𝓜 𝓖 𝓡))
-    (cited 𝓤 H (Core 𝓤 H (𝓖 .A) (𝓜 .mem) (𝓡 .run)) 𝓜 𝓡 code.env #core core-def.routine code.calls-card·table·show-from (core-thm.met 𝓤 H 𝓜 𝓖 𝓡)))
+    (cited 𝓤 H (Core 𝓤 H (𝓖 .A) (𝓜 .mem) (𝓡 .run)) 𝓜 𝓡 code.env #core core-def.routine code.calls-faces·show-from (core-thm.met 𝓤 H 𝓜 𝓖 𝓡)))

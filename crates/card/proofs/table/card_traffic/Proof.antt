@@ -23,10 +23,10 @@ use Rattle.slot_list.proofs.SlotLaws.{R, makes, typed, fields-typed}
 use Rattle.slot_list.proofs.SlotCalls.{IsNoTable, FieldsIn, SlotIn, lent, slice, asks-table, takes-fields, takes-slot, with-seen}
 use Rattle.card.proofs.Judged.{bytes, lends-judge, with-lent, judge-back}
 use Rattle.card.proofs.SeenTables.{traffic-in}
-use Rattle.card.proofs.table.traffic_from as core
-use Rattle.card.proofs.table.traffic_from.Symbol as core-def
-use Rattle.card.proofs.table.traffic_from.Symbol.{name as #core}
-use Rattle.card.proofs.table.traffic_from.Met as core-thm
+use Rattle.faces.proofs.traffic_from as core
+use Rattle.faces.proofs.traffic_from.Symbol as core-def
+use Rattle.faces.proofs.traffic_from.Symbol.{name as #core}
+use Rattle.faces.proofs.traffic_from.Met as core-thm
 use Rattle.slot_list.proofs.is_no_table.Symbol as is-no-table-def
 use Rattle.slot_list.proofs.is_no_table.Symbol.{name as #is-no-table}
 use Rattle.slot_list.proofs.is_no_table.Met as is-no-table-thm
@@ -244,4 +244,4 @@ card-traffic-spec 𝓤 H 𝓜 𝓖 𝓡 =
     (cited 𝓤 H (Judge 𝓤 H (𝓖 .A) (𝓜 .mem) (𝓡 .run)) 𝓜 𝓡 code.env #judge judge-def.routine code.calls-traffic·traffic-refusal (judge-thm.met 𝓤 H 𝓜 𝓖 𝓡))
     (cited 𝓤 H (Key 𝓤 H (𝓖 .A) (𝓜 .mem) (𝓡 .run)) 𝓜 𝓡 code.env #key-slot key-def.routine code.calls-slot-calls·key-slot (key-thm.met 𝓤 H 𝓜 𝓖 𝓡))
     (cited 𝓤 H (SlotIn 𝓤 H (𝓖 .A) (𝓜 .mem) (𝓡 .run)) 𝓜 𝓡 code.env #slot-in slot-in-def.routine code.calls-slot-list·slot-in (slot-in-thm.met 𝓤 H 𝓜 𝓖 𝓡))
-    (cited 𝓤 H (Core 𝓤 H (𝓖 .A) (𝓜 .mem) (𝓡 .run)) 𝓜 𝓡 code.env #core core-def.routine code.calls-card·table·traffic-from (core-thm.met 𝓤 H 𝓜 𝓖 𝓡)))
+    (cited 𝓤 H (Core 𝓤 H (𝓖 .A) (𝓜 .mem) (𝓡 .run)) 𝓜 𝓡 code.env #core core-def.routine code.calls-faces·traffic-from (core-thm.met 𝓤 H 𝓜 𝓖 𝓡)))

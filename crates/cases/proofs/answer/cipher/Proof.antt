@@ -7,7 +7,7 @@ use lib.ListN.{length}
 use borrow.Author.Needs.{needs}
 use Rattle.span.specs.Span.{xored}
 use Rattle.keystream.specs.Stream.{keystream}
-use Rattle.lines.specs.Parts.{areBytes, bytesOf}
+use Rattle.line_values.specs.Parts.{areBytes, bytesOf}
 use Rattle.case_reader.specs.Case.{caseOf}
 use Rattle.cases.specs.Answer.{cipheredCase}
 use Rattle.case_reader.proofs.Passed.{passed, buffer-readable}

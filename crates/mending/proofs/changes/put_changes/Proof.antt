@@ -92,18 +92,4 @@ returns c =
 pub put-changes-spec : {M : Type 1} → statement M
 put-changes-spec =
     tie.close
-    (tie.spec
-    (λ c. search needs)
-    put-fault-requires
-    (λ c. search needs)
-    put-fault-requires-2
-    (λ c. search needs)
-    put-fault-requires-3
-    (λ c. search needs)
-    put-fault-requires-4
-    (λ c. search needs)
-    put-order-requires
-    (λ c. search needs)
-    put-change-requires
-    (λ c. put-length (returns c))
-    returns)
+    (tie.spec (λ c. search needs) put-fault-requires (λ c. search needs) put-fault-requires-2 (λ c. search needs) put-fault-requires-3 (λ c. search needs) put-fault-requires-4 (λ c. search needs) put-order-requires (λ c. search needs) put-change-requires (λ c. put-length (returns c)) returns)

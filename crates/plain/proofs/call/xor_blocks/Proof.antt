@@ -6,8 +6,9 @@ use native.Mathlib.Omega.{arith}
 use borrow.Author.Needs.{needs}
 use lib.ListN.{length}
 use Rattle.laws.specs.Bits.{bitAt}
-use Rattle.span.specs.Span.{streamBit, xored, blocksUsed}
-use Rattle.span.proofs.Blocks.{used-none}
+use Rattle.span.specs.Span.{streamBit, xored}
+use Rattle.block_counts.specs.Counts.{blocksUsed}
+use Rattle.block_counts.proofs.Blocks.{used-none}
 use Rattle.span.proofs.Laws.{xored-none, length-xored}
 use Rattle.span.proofs.Stream.{xored-stretch}
 use Rattle.tea.specs.Keystream.{blockOf}

@@ -68,14 +68,4 @@ returns c =
 pub put-refusal-spec : {M : Type 1} → statement M
 put-refusal-spec =
     tie.close
-    (tie.spec
-    (λ c. search needs)
-    put-item-requires
-    (λ c. search needs)
-    put-item-requires-2
-    (λ c. search needs)
-    put-item-requires-3
-    (λ c. search needs)
-    put-line-requires
-    (λ c. search needs)
-    returns)
+    (tie.spec (λ c. search needs) put-item-requires (λ c. search needs) put-item-requires-2 (λ c. search needs) put-item-requires-3 (λ c. search needs) put-line-requires (λ c. search needs) returns)

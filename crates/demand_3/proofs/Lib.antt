@@ -1,0 +1,5 @@
+pub mod Agree
+pub mod Demand
+pub mod Facts
+pub mod Local
+pub mod Related
