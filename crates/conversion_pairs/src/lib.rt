@@ -1,4 +1,5 @@
-// The pairs of a conversion, and the faults of each (document 02, [11]): a flat list of before number, after number, and so on. One that is missing counts as 0, which is no record's number.
+// The pairs of a conversion, and the faults of each (document 02, [11]): a flat list of before number, after number, and so on. One that is
+// missing counts as 0, which is no record's number.
 use agreement::agrees;
 use slots::Slot;
 use slots::is_filled;

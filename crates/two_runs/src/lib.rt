@@ -1,1 +1,1 @@
-// Demand 3: a theorem on two runs of the card's calls. No code.
+// Demand 3: two runs of a card's calls. The statement, of any card, and the wrong cards that do not have it. No code.
