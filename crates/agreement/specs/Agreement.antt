@@ -5,8 +5,8 @@ use Rattle.slots.specs.declared.Slot.{Slot}
 use Rattle.rights.specs.Rights.{within}
 
 -- version, algorithm, side, place and network: every field but the use
-unfoldable pub sameFields : Fields → Fields → Bool
-sameFields f g =
+unfoldable pub same_fields : Fields → Fields → Bool
+same_fields f g =
     eqb f.version g.version
     && (eqb f.algorithm g.algorithm
     && (eqb f.side g.side
@@ -15,17 +15,17 @@ sameFields f g =
     && eqb f.mnc g.mnc))))
 
 -- the first n bytes
-unfoldable pub sameBytes : List ℕ → List ℕ → ℕ → Bool
-sameBytes a b zero = true
-sameBytes a b (suc n) = sameBytes a b n && eqb (get_or a n 0) (get_or b n 0)
+unfoldable pub same_bytes : List ℕ → List ℕ → ℕ → Bool
+same_bytes a b zero = true
+same_bytes a b (suc n) = same_bytes a b n && eqb (get_or a n 0) (get_or b n 0)
 
 -- a key is 24 bytes
-abbrev pub sameKey : List ℕ → List ℕ → Bool
-sameKey a b = sameBytes a b 24
+abbrev pub same_key : List ℕ → List ℕ → Bool
+same_key a b = same_bytes a b 24
 
 -- the same key and fields, with a use within the use before
 unfoldable pub agrees : Slot → Slot → Bool
 agrees before after =
-    sameFields before.fields after.fields
-    && (sameKey before.key after.key
+    same_fields before.fields after.fields
+    && (same_key before.key after.key
     && within after.fields.usage before.fields.usage)

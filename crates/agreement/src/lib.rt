@@ -1,6 +1,6 @@
 // When a record stands for another without a right more (document 02, [11]).
 ghost use Rattle.std.specs.Prelude.{◌≡◌};
-ghost use Rattle.agreement.specs.Agreement.{sameFields, sameKey, agrees};
+ghost use Rattle.agreement.specs.Agreement.{same_fields, same_key, agrees};
 
 use fields::Fields;
 use rights::lies_within;
@@ -8,7 +8,7 @@ use slots::Slot;
 
 // Version, algorithm, side, place and network: every field but the use.
 fn same_fields(f: Fields, g: Fields) -> bool
-    ensures { result ≡ sameFields f g }
+    ensures { result ≡ same_fields f g }
 {
     if f.version != g.version {
         return false;
@@ -30,7 +30,7 @@ fn same_fields(f: Fields, g: Fields) -> bool
 
 // Each byte is compared, whatever the bytes before it are.
 fn same_key(a: [u8; 24], b: [u8; 24]) -> bool
-    ensures { result ≡ sameKey a b }
+    ensures { result ≡ same_key a b }
 {
     let mut same = true;
     let mut i: usize = 0;

@@ -12,24 +12,24 @@ use Rattle.laws.specs.Lists.{tabulate}
 use Rattle.laws.proofs.Different.{different, different-at}
 use Rattle.laws.proofs.Lists.{length-tabulate, get_d_tabulate}
 use Rattle.laws.proofs.Tests.{all, between, pass-left, pass-right}
-use Rattle.algorithms.specs.Combining.{fTea5, fTea6, fTea7}
+use Rattle.algorithms.specs.Combining.{f_tea5, f_tea6, f_tea7}
 
 -- row r of a table, its high halves and its low halves
 abbrev entry_at : List ℕ → ℕ → ℕ → ℕ
 entry_at f r c = get_or f (16 * r + c) 0
 
-abbrev highHalves : List ℕ → ℕ → List ℕ
-highHalves f r = tabulate (λ c. entry_at f r c / 16) 0 16
+abbrev high_halves : List ℕ → ℕ → List ℕ
+high_halves f r = tabulate (λ c. entry_at f r c / 16) 0 16
 
-abbrev lowHalves : List ℕ → ℕ → List ℕ
-lowHalves f r = tabulate (λ c. entry_at f r c % 16) 0 16
+abbrev low_halves : List ℕ → ℕ → List ℕ
+low_halves f r = tabulate (λ c. entry_at f r c % 16) 0 16
 
 -- the row rule at row r: sixteen different high halves and sixteen different low halves
-abbrev pub rowPasses : List ℕ → ℕ → Bool
-rowPasses f r = different (highHalves f r) && different (lowHalves f r)
+abbrev pub row_passes : List ℕ → ℕ → Bool
+row_passes f r = different (high_halves f r) && different (low_halves f r)
 
-abbrev pub allRowsPass : List ℕ → Bool
-allRowsPass f = all (rowPasses f) 0 16
+abbrev pub all_rows_pass : List ℕ → Bool
+all_rows_pass f = all (row_passes f) 0 16
 
 -- what the tests say of the entries
 
@@ -49,48 +49,48 @@ half-rule g t c d hc hd e =
     at : (k : ℕ) → k < 16 → get_or (tabulate g 0 16) k 0 ≡ g k
     at k h = get_d_tabulate g 0 16 k 0 h ∙ ap g (zero-add k)
 
-row-rule : (f : List ℕ) → T (allRowsPass f) → RowRule f
+row-rule : (f : List ℕ) → T (all_rows_pass f) → RowRule f
 row-rule f t =
     record {
-      high = λ r c d hr. half-rule (λ k. entry_at f r k / 16) (pass-left (different (highHalves f r)) (different (lowHalves f r)) (row r hr)) c d;
-      low = λ r c d hr. half-rule (λ k. entry_at f r k % 16) (pass-right (different (highHalves f r)) (different (lowHalves f r)) (row r hr)) c d;
+      high = λ r c d hr. half-rule (λ k. entry_at f r k / 16) (pass-left (different (high_halves f r)) (different (low_halves f r)) (row r hr)) c d;
+      low = λ r c d hr. half-rule (λ k. entry_at f r k % 16) (pass-right (different (high_halves f r)) (different (low_halves f r)) (row r hr)) c d;
     }
   where
-    row : (r : ℕ) → r < 16 → T (rowPasses f r)
-    row r h = between (rowPasses f) 0 16 t r zero-le h
+    row : (r : ℕ) → r < 16 → T (row_passes f r)
+    row r h = between (row_passes f) 0 16 t r zero-le h
 
 no-value-twice : (f : List ℕ) → length f ≡ 256 → T (different f) → NoValueTwice f
 no-value-twice f long t x y hx hy e = different-at f t x y (omega arith) (omega arith) e
 
 -- TEA5 and TEA6 keep both rules
 
-pub tea5-row-rule : RowRule fTea5
-unfolding fTea5 tabulate
-tea5-row-rule = row-rule fTea5 tt
+pub tea5-row-rule : RowRule f_tea5
+unfolding f_tea5 tabulate
+tea5-row-rule = row-rule f_tea5 tt
 
-pub tea5-no-value-twice : NoValueTwice fTea5
-unfolding fTea5
-tea5-no-value-twice = no-value-twice fTea5 refl tt
+pub tea5-no-value-twice : NoValueTwice f_tea5
+unfolding f_tea5
+tea5-no-value-twice = no-value-twice f_tea5 refl tt
 
-pub tea6-row-rule : RowRule fTea6
-unfolding fTea6 tabulate
-tea6-row-rule = row-rule fTea6 tt
+pub tea6-row-rule : RowRule f_tea6
+unfolding f_tea6 tabulate
+tea6-row-rule = row-rule f_tea6 tt
 
-pub tea6-no-value-twice : NoValueTwice fTea6
-unfolding fTea6
-tea6-no-value-twice = no-value-twice fTea6 refl tt
+pub tea6-no-value-twice : NoValueTwice f_tea6
+unfolding f_tea6
+tea6-no-value-twice = no-value-twice f_tea6 refl tt
 
 -- TEA7 has no value twice, and no row of it keeps the row rule
 
-pub tea7-no-value-twice : NoValueTwice fTea7
-unfolding fTea7
-tea7-no-value-twice = no-value-twice fTea7 refl tt
+pub tea7-no-value-twice : NoValueTwice f_tea7
+unfolding f_tea7
+tea7-no-value-twice = no-value-twice f_tea7 refl tt
 
-pub tea7-no-row-passes : (r : ℕ) → r < 16 → T (not (rowPasses fTea7 r))
-unfolding fTea7 tabulate
-tea7-no-row-passes r h = between (λ k. not (rowPasses fTea7 k)) 0 16 tt r zero-le h
+pub tea7-no-row-passes : (r : ℕ) → r < 16 → T (not (row_passes f_tea7 r))
+unfolding f_tea7 tabulate
+tea7-no-row-passes r h = between (λ k. not (row_passes f_tea7 k)) 0 16 tt r zero-le h
 
 -- for instance, 0x00 and 0x01 have the same low half, so that the mode value alone does not tell one from the other
-pub tea7-row-rule-fails : RowRule fTea7 → ⊥
-unfolding fTea7
+pub tea7-row-rule-fails : RowRule f_tea7 → ⊥
+unfolding f_tea7
 tea7-row-rule-fails rule = let e : ◌≡◌ {A = ℕ} 0 1 = rule.low 0 0 1 (omega arith) (omega arith) (omega arith) refl in omega arith

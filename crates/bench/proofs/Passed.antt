@@ -5,8 +5,8 @@ use Prim.Native.Nat.{ℕ}
 use borrow.Author.Tests.{eqb-true, not-false}
 use lib.Dec.{eqb, lit<}
 use Rattle.laws.proofs.Cases.{unpicked}
-use Rattle.fields.specs.Fields.{isAlgorithm}
-use Rattle.bench.specs.Bench.{keyedRefusal}
+use Rattle.fields.specs.Fields.{is_algorithm}
+use Rattle.bench.specs.Bench.{keyed_refusal}
 use Rattle.ciphering.proofs.Passed.{SpanPassed, span-passed}
 
 pub record KeyedPassed (key iv size start n skip : ℕ) : Type 0 where
@@ -14,10 +14,10 @@ pub record KeyedPassed (key iv size start n skip : ℕ) : Type 0 where
   pub iv-10 : iv ≡ 10
   pub span : SpanPassed size start n skip
 
-pub keyed-passed : (algorithm key iv size start n skip : ℕ) → keyedRefusal algorithm key iv size start n skip ≡ 0 → KeyedPassed key iv size start n skip
-unfolding keyedRefusal
+pub keyed-passed : (algorithm key iv size start n skip : ℕ) → keyed_refusal algorithm key iv size start n skip ≡ 0 → KeyedPassed key iv size start n skip
+unfolding keyed_refusal
 keyed-passed algorithm key iv size start n skip e =
-    let one = unpicked (not (isAlgorithm algorithm)) 1 _ (lit< tt) e in
+    let one = unpicked (not (is_algorithm algorithm)) 1 _ (lit< tt) e in
     let two = unpicked (not (eqb key 24)) 2 _ (lit< tt) one.1 in
     let three = unpicked (not (eqb iv 10)) 3 _ (lit< tt) two.1 in
     record {

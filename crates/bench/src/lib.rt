@@ -1,10 +1,10 @@
 // The bench call: keystream into a buffer, with no slot.
 ghost use Rattle.std.specs.Prelude.{◌≡◌, ◌*◌, ◌≤◌, length};
-ghost use Rattle.span.specs.Span.{longestBuffer, longestStream, written};
-ghost use Rattle.block_counts.specs.Counts.{blocksUsed};
+ghost use Rattle.span.specs.Span.{longest_buffer, longest_stream, written};
+ghost use Rattle.block_counts.specs.Counts.{blocks_used};
 ghost use Rattle.keystream.specs.Stream.{keystream};
-ghost use Rattle.bench.specs.Bench.{keyedRefusal, benchRefusal, benchBlocks, benchAnswer};
-ghost use Rattle.ciphering.specs.Span.{cipheredAs, schedulesFor};
+ghost use Rattle.bench.specs.Bench.{keyed_refusal, bench_refusal, bench_blocks, bench_answer};
+ghost use Rattle.ciphering.specs.Span.{ciphered_as, schedules_for};
 
 use ciphering::Report;
 use ciphering::lent::{iv_of, key_of};
@@ -23,7 +23,7 @@ pub fn keyed_refusal(
     n: usize,
     skip: usize,
 ) -> u8
-    ensures { result ≡ keyedRefusal algorithm key iv size start n skip }
+    ensures { result ≡ keyed_refusal algorithm key iv size start n skip }
 {
     refuse(
         !fields::is_algorithm(algorithm),
@@ -41,17 +41,17 @@ pub fn keyed_refusal(
 }
 
 fn bench_refusal(algorithm: u64, key: &[u8], iv: &[u8], buf: &[u8], n: usize) -> u8
-    ensures { result ≡ benchRefusal algorithm key.now iv.now buf.now n }
+    ensures { result ≡ bench_refusal algorithm key.now iv.now buf.now n }
 {
     keyed_refusal(algorithm, key.len(), iv.len(), buf.len(), 0, n, 0)
 }
 
 // Bits 0 to n - 1 of the buffer become the keystream's. They are cleared first, and xored then.
 fn write_keystream(buf: &mut [u8], n: usize, algorithm: u64, ck: [u8; 24], iv: [u8; 10]) -> Tally
-    requires { (length buf.old ≤ longestBuffer) × (n ≤ 8 * length buf.old) × (n ≤ longestStream) }
+    requires { (length buf.old ≤ longest_buffer) × (n ≤ 8 * length buf.old) × (n ≤ longest_stream) }
     ensures { (buf.new ≡ written buf.old (keystream algorithm ck iv) 0 0 n)
         × (result.schedules ≡ 1)
-        × (result.blocks ≡ blocksUsed 0 n) }
+        × (result.blocks ≡ blocks_used 0 n) }
 {
     span::clear_front(buf, n);
     let run = Run {
@@ -64,9 +64,9 @@ fn write_keystream(buf: &mut [u8], n: usize, algorithm: u64, ck: [u8; 24], iv: [
 
 // Writes keystream bits 0 to n - 1 from bit 0 of the buffer on, keeps its later bits, and reports how many blocks were made.
 pub fn bench(algorithm: u64, key: &[u8], iv: &[u8], buf: &mut [u8], n: usize) -> Report
-    ensures { (cipheredAs result.refusal buf.new result.blocks
-        ≡ benchAnswer algorithm key.now iv.now buf.old n)
-        × (result.schedules ≡ schedulesFor (benchBlocks algorithm key.now iv.now buf.old n)) }
+    ensures { (ciphered_as result.refusal buf.new result.blocks
+        ≡ bench_answer algorithm key.now iv.now buf.old n)
+        × (result.schedules ≡ schedules_for (bench_blocks algorithm key.now iv.now buf.old n)) }
 {
     let refusal = bench_refusal(algorithm, key, iv, &buf[..], n);
     if refusal != refusals::DONE {

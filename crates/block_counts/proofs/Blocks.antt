@@ -1,4 +1,4 @@
--- `blocksUsed` is the number of different blocks that hold a used bit, and `blocksOfBoth` that of two runs; how large they get. Assumes nothing.
+-- `blocks_used` is the number of different blocks that hold a used bit, and `blocks_of_both` that of two runs; how large they get. Assumes nothing.
 use mathlib.Core.Path.{◌≡◌, refl, sym, ap, ◌∙◌}
 use mathlib.Core.Logic.{◌⊎◌, inl, inr, ⊎_elim}
 use mathlib.Core.Bool.{Bool, true, false, not, ◌&&◌}
@@ -13,18 +13,18 @@ use Rattle.laws.specs.Choice.{pick}
 use Rattle.laws.specs.Lists.{tabulate}
 use Rattle.laws.proofs.Cases.{lt-or-le, eq-or-ne, pick-cases}
 use Rattle.laws.proofs.Lists.{length-tabulate, get_d_tabulate}
-use Rattle.span.specs.Span.{longestStream}
-use Rattle.block_counts.specs.Counts.{blocksUsed, blockAfter, shareBlock, blocksOfBoth, mostBlocks}
+use Rattle.span.specs.Span.{longest_stream}
+use Rattle.block_counts.specs.Counts.{blocks_used, block_after, share_block, blocks_of_both, most_blocks}
 
-pub used-none : (skip n : ℕ) → n ≡ 0 → blocksUsed skip n ≡ 0
-unfolding blocksUsed
+pub used-none : (skip n : ℕ) → n ≡ 0 → blocks_used skip n ≡ 0
+unfolding blocks_used
 used-none skip n e = rw (eq-eqb n 0 e)
 
-pub used-some : (skip n : ℕ) → (n ≡ 0 → ⊥) → blocksUsed skip n ≡ (skip + n - 1) / 256 - skip / 256 + 1
-unfolding blocksUsed
+pub used-some : (skip n : ℕ) → (n ≡ 0 → ⊥) → blocks_used skip n ≡ (skip + n - 1) / 256 - skip / 256 + 1
+unfolding blocks_used
 used-some skip n e = rw (ne_eqb n 0 e)
 
-pub used_pos : (skip n : ℕ) → 0 < n → 0 < blocksUsed skip n
+pub used_pos : (skip n : ℕ) → 0 < n → 0 < blocks_used skip n
 used_pos skip n h = let u = used-some skip n (λ e. omega arith) in omega (arith, u)
 
 -- block r holds one of the n bits from `skip` on
@@ -53,18 +53,18 @@ pub record Enumerates (P : ℕ → Type 0) (l : List ℕ) : Type 0 where
   pub each : (r : ℕ) → P r → (i : ℕ) × (i < length l) × (get_or l i 0 ≡ r)
   pub once : (i j : ℕ) → i < length l → j < length l → get_or l i 0 ≡ get_or l j 0 → i ≡ j
 
--- such a list of the blocks that hold a used bit has `blocksUsed skip n` entries: that is their number
-pub blocks-counted : (skip n : ℕ) → (l : List ℕ) × (length l ≡ blocksUsed skip n) × Enumerates (UsedBlock skip n) l
+-- such a list of the blocks that hold a used bit has `blocks_used skip n` entries: that is their number
+pub blocks-counted : (skip n : ℕ) → (l : List ℕ) × (length l ≡ blocks_used skip n) × Enumerates (UsedBlock skip n) l
 blocks-counted skip n = (blocks, long, record { only = only; each = each; once = once })
   where
     blocks : List ℕ
-    blocks = tabulate (λ r. r) (skip / 256) (blocksUsed skip n)
+    blocks = tabulate (λ r. r) (skip / 256) (blocks_used skip n)
 
-    long : length blocks ≡ blocksUsed skip n
-    long = length-tabulate _ (skip / 256) (blocksUsed skip n)
+    long : length blocks ≡ blocks_used skip n
+    long = length-tabulate _ (skip / 256) (blocks_used skip n)
 
     entry : (i : ℕ) → i < length blocks → get_or blocks i 0 ≡ skip / 256 + i
-    entry i h = get_d_tabulate _ (skip / 256) (blocksUsed skip n) i 0 (omega (arith, long))
+    entry i h = get_d_tabulate _ (skip / 256) (blocks_used skip n) i 0 (omega (arith, long))
 
     only : (i : ℕ) → i < length blocks → UsedBlock skip n (get_or blocks i 0)
     only i h =
@@ -88,16 +88,16 @@ blocks-counted skip n = (blocks, long, record { only = only; each = each; once =
 
 -- the number after the last block's
 
-pub after_none : (next skip n : ℕ) → n ≡ 0 → blockAfter next skip n ≡ next
-unfolding blockAfter
+pub after_none : (next skip n : ℕ) → n ≡ 0 → block_after next skip n ≡ next
+unfolding block_after
 after_none next skip n e = rw (eq-eqb n 0 e)
 
-pub after-some : (next skip n : ℕ) → 0 < n → blockAfter next skip n ≡ (skip + n - 1) / 256 + 1
-unfolding blockAfter
+pub after-some : (next skip n : ℕ) → 0 < n → block_after next skip n ≡ (skip + n - 1) / 256 + 1
+unfolding block_after
 after-some next skip n h = rw (ne_eqb n 0 (λ e. omega arith))
 
 -- the blocks of a run from the first bit's on
-pub after-used : (skip n : ℕ) → blockAfter 0 skip n - skip / 256 ≡ blocksUsed skip n
+pub after-used : (skip n : ℕ) → block_after 0 skip n - skip / 256 ≡ blocks_used skip n
 after-used skip n =
     ⊎_elim
     (λ h. let a = after-some 0 skip n h in let u = used-some skip n (λ e. omega arith) in omega (arith, a, u))
@@ -105,7 +105,7 @@ after-used skip n =
     (lt-or-le 0 n)
 
 -- a run behind another starts in the block that the first reached last, or later
-pub after-early : (skip n skip₂ : ℕ) → skip + n ≤ skip₂ → blockAfter 0 skip n ≤ skip₂ / 256 + 1
+pub after-early : (skip n skip₂ : ℕ) → skip + n ≤ skip₂ → block_after 0 skip n ≤ skip₂ / 256 + 1
 after-early skip n skip₂ h =
     ⊎_elim
     (λ k. let a = after-some 0 skip n k in omega (arith, a))
@@ -114,12 +114,12 @@ after-early skip n skip₂ h =
 
 -- a run behind another: its blocks are those from the number on that the first did not reach
 pub both_used : (skip n skip₂ n₂ : ℕ) → (0 < n₂ → skip + n ≤ skip₂)
-    → blocksUsed skip n + (blockAfter (blockAfter 0 skip n) skip₂ n₂ - max (blockAfter 0 skip n) (skip₂ / 256)) ≡ blocksOfBoth skip n skip₂ n₂
-unfolding blocksOfBoth
+    → blocks_used skip n + (block_after (block_after 0 skip n) skip₂ n₂ - max (block_after 0 skip n) (skip₂ / 256)) ≡ blocks_of_both skip n skip₂ n₂
+unfolding blocks_of_both
 both_used skip n skip₂ n₂ later =
     ⊎_elim
     (λ h₂.
-    let a₂ = after-some (blockAfter 0 skip n) skip₂ n₂ h₂ in
+    let a₂ = after-some (block_after 0 skip n) skip₂ n₂ h₂ in
     let u₂ = used-some skip₂ n₂ (λ e. omega arith) in
     ⊎_elim
     (λ h.
@@ -131,7 +131,7 @@ both_used skip n skip₂ n₂ later =
     let b = (skip + n - 1) / 256 in
     let up : b ≤ skip₂ / 256 = omega arith in
     rw (ne_eqb n 0 (λ z. omega arith), ne_eqb n₂ 0 (λ z. omega arith), ne_eqb b (skip₂ / 256) e, a₂, u₂, a)
-    (apart b (skip₂ / 256) ((skip₂ + n₂ - 1) / 256) (blocksUsed skip n) (omega (arith, e, up)) (omega arith)))
+    (apart b (skip₂ / 256) ((skip₂ + n₂ - 1) / 256) (blocks_used skip n) (omega (arith, e, up)) (omega arith)))
     (eq-or-ne ((skip + n - 1) / 256) (skip₂ / 256)))
     (λ h.
     let z : n ≡ 0 = omega arith in
@@ -139,25 +139,25 @@ both_used skip n skip₂ n₂ later =
     (lt-or-le 0 n))
     (λ h₂.
     let z : n₂ ≡ 0 = omega arith in
-    rw (eq-eqb n₂ 0 z, after_none (blockAfter 0 skip n) skip₂ n₂ z, used-none skip₂ n₂ z) (none-shared (eqb n 0) (blockAfter 0 skip n)))
+    rw (eq-eqb n₂ 0 z, after_none (block_after 0 skip n) skip₂ n₂ z, used-none skip₂ n₂ z) (none-shared (eqb n 0) (block_after 0 skip n)))
     (lt-or-le 0 n₂)
   where
     apart : (b a e u : ℕ) → b < a → a ≤ e → u + (e + 1 - max (b + 1) a) ≡ u + (e - a + 1) - 0
     apart b a e u h k = omega arith
 
-    none-shared : (t : Bool) (a : ℕ) → blocksUsed skip n + (a - max a (skip₂ / 256)) ≡ blocksUsed skip n + 0 - pick (not t && not true && eqb ((skip + n - 1) / 256) (skip₂ / 256)) 1 0
+    none-shared : (t : Bool) (a : ℕ) → blocks_used skip n + (a - max a (skip₂ / 256)) ≡ blocks_used skip n + 0 - pick (not t && not true && eqb ((skip + n - 1) / 256) (skip₂ / 256)) 1 0
     none-shared true a = omega arith
     none-shared false a = omega arith
 
 -- a second run of no bits adds none
-pub both-none : (skip n skip₂ : ℕ) → blocksOfBoth skip n skip₂ 0 ≡ blocksUsed skip n
+pub both-none : (skip n skip₂ : ℕ) → blocks_of_both skip n skip₂ 0 ≡ blocks_used skip n
 both-none skip n skip₂ =
-    let a = after_none (blockAfter 0 skip n) skip₂ 0 refl in
+    let a = after_none (block_after 0 skip n) skip₂ 0 refl in
     sym (both_used skip n skip₂ 0 (λ h. absurd (omega arith))) ∙ rw a (omega arith)
 
 -- a run of some bits uses a block
-pub both-pos : (skip n skip₂ n₂ : ℕ) → (n ≡ 0 → n₂ ≡ 0 → ⊥) → 0 < blocksOfBoth skip n skip₂ n₂
-unfolding blocksOfBoth
+pub both-pos : (skip n skip₂ n₂ : ℕ) → (n ≡ 0 → n₂ ≡ 0 → ⊥) → 0 < blocks_of_both skip n skip₂ n₂
+unfolding blocks_of_both
 both-pos skip n skip₂ n₂ some =
     ⊎_elim
     (λ e. rw (eq-eqb n 0 e, used-none skip n e) (let u = used_pos skip₂ n₂ (pos n₂ (some e)) in omega (arith, u)))
@@ -167,7 +167,7 @@ both-pos skip n skip₂ n₂ some =
     (λ e. rw (ne_eqb n 0 ne, eq-eqb n₂ 0 e, used-none skip₂ n₂ e) (omega (arith, u)))
     (λ ne₂.
     let u₂ = used_pos skip₂ n₂ (pos n₂ ne₂) in
-    pick-cases (λ (x : ℕ). 0 < blocksUsed skip n + blocksUsed skip₂ n₂ - x) (shareBlock skip n skip₂ n₂) (λ t. omega (arith, u, u₂)) (λ t. omega (arith, u, u₂)))
+    pick-cases (λ (x : ℕ). 0 < blocks_used skip n + blocks_used skip₂ n₂ - x) (share_block skip n skip₂ n₂) (λ t. omega (arith, u, u₂)) (λ t. omega (arith, u, u₂)))
     (eq-or-ne n₂ 0))
     (eq-or-ne n 0)
   where
@@ -176,40 +176,40 @@ both-pos skip n skip₂ n₂ some =
 
 -- how many blocks n bits use at most, and that they do from bit 255 of a block on
 
-pub used-bound : (skip n : ℕ) → 0 < n → blocksUsed skip n ≤ mostBlocks n
+pub used-bound : (skip n : ℕ) → 0 < n → blocks_used skip n ≤ most_blocks n
 used-bound skip n h = let u = used-some skip n (λ e. omega arith) in omega (arith, u)
 
-pub used-most : (n : ℕ) → 0 < n → blocksUsed 255 n ≡ mostBlocks n
+pub used-most : (n : ℕ) → 0 < n → blocks_used 255 n ≡ most_blocks n
 used-most n h = let u = used-some 255 n (λ e. omega arith) in omega (arith, u)
 
 -- more than 8,033 bits do not fit the keystream from bit 255 on; as far as its end they use all of its 33 blocks, and never more
-pub used-beyond : (skip n : ℕ) → 8033 < n → skip + n ≤ longestStream → blocksUsed skip n ≤ 33
+pub used-beyond : (skip n : ℕ) → 8033 < n → skip + n ≤ longest_stream → blocks_used skip n ≤ 33
 used-beyond skip n h fits = let u = used-some skip n (λ e. omega arith) in omega (arith, u)
 
-pub used-to-end : (n : ℕ) → 8033 < n → n ≤ longestStream → blocksUsed (longestStream - n) n ≡ 33
-used-to-end n h fits = let u = used-some (longestStream - n) n (λ e. omega arith) in omega (arith, u)
+pub used-to-end : (n : ℕ) → 8033 < n → n ≤ longest_stream → blocks_used (longest_stream - n) n ≡ 33
+used-to-end n h fits = let u = used-some (longest_stream - n) n (λ e. omega arith) in omega (arith, u)
 
 -- two runs within the keystream use no more than its blocks
-pub both-bound : (skip n skip₂ n₂ : ℕ) → (0 < n₂ → skip + n ≤ skip₂) → skip + n ≤ longestStream → skip₂ + n₂ ≤ longestStream → blocksOfBoth skip n skip₂ n₂ ≤ 33
+pub both-bound : (skip n skip₂ n₂ : ℕ) → (0 < n₂ → skip + n ≤ skip₂) → skip + n ≤ longest_stream → skip₂ + n₂ ≤ longest_stream → blocks_of_both skip n skip₂ n₂ ≤ 33
 both-bound skip n skip₂ n₂ later h h₂ = rw (← both_used skip n skip₂ n₂ later) bound
   where
     next : ℕ
-    next = blockAfter 0 skip n
+    next = block_after 0 skip n
 
     low : next ≤ 33
     low = ⊎_elim (λ k. let a = after-some 0 skip n k in omega (arith, a)) (λ k. let a = after_none 0 skip n (omega arith) in omega (arith, a)) (lt-or-le 0 n)
 
-    high : blockAfter next skip₂ n₂ ≤ 33
+    high : block_after next skip₂ n₂ ≤ 33
     high = ⊎_elim (λ k. let a = after-some next skip₂ n₂ k in omega (arith, a)) (λ k. let a = after_none next skip₂ n₂ (omega arith) in omega (arith, a, low)) (lt-or-le 0 n₂)
 
-    some : blocksUsed skip n ≤ next
+    some : blocks_used skip n ≤ next
     some = let u = after-used skip n in omega (arith, u)
 
     sum : (u a b c : ℕ) → u ≤ a → a ≤ 33 → b ≤ 33 → u + (b - max a c) ≤ 33
     sum u a b c p q r = omega arith
 
-    bound : blocksUsed skip n + (blockAfter next skip₂ n₂ - max next (skip₂ / 256)) ≤ 33
-    bound = sum (blocksUsed skip n) next (blockAfter next skip₂ n₂) (skip₂ / 256) some low high
+    bound : blocks_used skip n + (block_after next skip₂ n₂ - max next (skip₂ / 256)) ≤ 33
+    bound = sum (blocks_used skip n) next (block_after next skip₂ n₂) (skip₂ / 256) some low high
 
 -- the numbers of two stretches, one behind the other
 abbrev Stretches : ℕ → ℕ → ℕ → ℕ → ℕ → Type 0
@@ -276,23 +276,23 @@ module _ (a b c d : ℕ) (ab : a ≤ b) (bc : b ≤ c) where
 renamed : (P Q : ℕ → Type 0) (l : List ℕ) → ((r : ℕ) → P r → Q r) → ((r : ℕ) → Q r → P r) → Enumerates P l → Enumerates Q l
 renamed P Q l f g e = record { only = λ i h. f _ (e.only i h); each = λ r q. e.each r (g r q); once = e.once }
 
--- a list of the different blocks that hold a bit of one of two runs has `blocksOfBoth` entries: that is their number
+-- a list of the different blocks that hold a bit of one of two runs has `blocks_of_both` entries: that is their number
 pub both-counted : (skip n skip₂ n₂ : ℕ) → (0 < n₂ → skip + n ≤ skip₂)
-    → (l : List ℕ) × (length l ≡ blocksOfBoth skip n skip₂ n₂) × Enumerates (λ r. UsedBlock skip n r ⊎ UsedBlock skip₂ n₂ r) l
+    → (l : List ℕ) × (length l ≡ blocks_of_both skip n skip₂ n₂) × Enumerates (λ r. UsedBlock skip n r ⊎ UsedBlock skip₂ n₂ r) l
 both-counted skip n skip₂ n₂ later =
-    let found = stretches (next - blocksUsed skip n) next behind end (omega arith) (omega arith) in
+    let found = stretches (next - blocks_used skip n) next behind end (omega arith) (omega arith) in
     (found.0, found.1 ∙ size, renamed _ _ found.0 used listed found.2)
   where
     next : ℕ
-    next = blockAfter 0 skip n
+    next = block_after 0 skip n
 
     behind : ℕ
     behind = max next (skip₂ / 256)
 
     end : ℕ
-    end = blockAfter next skip₂ n₂
+    end = block_after next skip₂ n₂
 
-    back : next - (next - blocksUsed skip n) ≡ blocksUsed skip n
+    back : next - (next - blocks_used skip n) ≡ blocks_used skip n
     back = let f = after-used skip n in omega (arith, f)
 
     some_first : (r : ℕ) → r < next → 0 < n
@@ -301,14 +301,14 @@ both-counted skip n skip₂ n₂ later =
     some-second : (r : ℕ) → behind ≤ r → r < end → 0 < n₂
     some-second r lo hi = ⊎_elim (λ k. k) (λ k. let e = after_none next skip₂ n₂ (omega arith) in absurd (omega (arith, e))) (lt-or-le 0 n₂)
 
-    size : next - (next - blocksUsed skip n) + (end - behind) ≡ blocksOfBoth skip n skip₂ n₂
+    size : next - (next - blocks_used skip n) + (end - behind) ≡ blocks_of_both skip n skip₂ n₂
     size = ap (λ (m : ℕ). m + (end - behind)) back ∙ both_used skip n skip₂ n₂ later
 
-    used : (r : ℕ) → Stretches (next - blocksUsed skip n) next behind end r → UsedBlock skip n r ⊎ UsedBlock skip₂ n₂ r
+    used : (r : ℕ) → Stretches (next - blocks_used skip n) next behind end r → UsedBlock skip n r ⊎ UsedBlock skip₂ n₂ r
     used r s =
         ⊎_elim
         (λ u.
-        let lo : next - blocksUsed skip n ≤ r = u.0 in
+        let lo : next - blocks_used skip n ≤ r = u.0 in
         let hi : r < next = u.1 in
         let k = some_first r hi in
         let e = after-some 0 skip n k in
@@ -322,7 +322,7 @@ both-counted skip n skip₂ n₂ later =
         inr (between-used skip₂ n₂ r k (omega arith) (omega (arith, e))))
         s
 
-    listed : (r : ℕ) → UsedBlock skip n r ⊎ UsedBlock skip₂ n₂ r → Stretches (next - blocksUsed skip n) next behind end r
+    listed : (r : ℕ) → UsedBlock skip n r ⊎ UsedBlock skip₂ n₂ r → Stretches (next - blocks_used skip n) next behind end r
     listed r s =
         ⊎_elim
         (λ u.

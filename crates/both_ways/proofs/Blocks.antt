@@ -11,9 +11,9 @@ use Rattle.laws.specs.Lists.{tabulate, cell}
 use Rattle.laws.proofs.Cases.{lt-or-le}
 use Rattle.laws.proofs.Lists.{length-tabulate, tabulate-at, tabulate-ext}
 use Rattle.laws.proofs.States.{grid-at}
-use Rattle.schedule.specs.Schedule.{keyWord}
-use Rattle.rijndael.specs.Cipher.{toState, toBlock, encrypted, cipher}
-use Rattle.inv_parts.specs.Schedule.{invKeyWord}
+use Rattle.schedule.specs.Schedule.{key_word}
+use Rattle.rijndael.specs.Cipher.{to_state, to_block, encrypted, cipher}
+use Rattle.inv_parts.specs.Schedule.{inv_key_word}
 use Rattle.inverse.specs.Decipher.{decrypted, decipher}
 use Rattle.both_ways.specs.Block.{Block}
 use Rattle.both_ways.proofs.Steps.{Good, grid-good, is-grid}
@@ -21,20 +21,20 @@ use Rattle.both_ways.proofs.Rounds.{encrypted-good, decrypted-good, decrypted-ba
 
 -- a block as a state, and back
 
-state-at : (b : List ℕ) (r c : ℕ) → r < 4 → c < 8 → cell (toState b) r c ≡ get_or b (4 * c + r) 0
-unfolding toState
+state-at : (b : List ℕ) (r c : ℕ) → r < 4 → c < 8 → cell (to_state b) r c ≡ get_or b (4 * c + r) 0
+unfolding to_state
 state-at b r c hr hc = grid-at _ refl r c hr hc
 
-block_at : (s : List (List ℕ)) (k : ℕ) → k < 32 → get_or (toBlock s) k 0 ≡ cell s (k % 4) (k / 4)
-unfolding toBlock
+block_at : (s : List (List ℕ)) (k : ℕ) → k < 32 → get_or (to_block s) k 0 ≡ cell s (k % 4) (k / 4)
+unfolding to_block
 block_at s k h = tabulate-at (λ k. cell s (k % 4) (k / 4)) 0 refl k h
 
-state-good : {b : List ℕ} → Block b → Good (toState b)
-unfolding toState
+state-good : {b : List ℕ} → Block b → Good (to_state b)
+unfolding to_state
 state-good {b} g = grid-good _ (λ r c hr hc. g.bytes (4 * c + r))
 
-state-back : {s : List (List ℕ)} → Good s → toState (toBlock s) ≡ s
-unfolding toState
+state-back : {s : List (List ℕ)} → Good s → to_state (to_block s) ≡ s
+unfolding to_state
 state-back {s} g =
     is-grid _ g.shape
     (λ r c hr hc.
@@ -42,27 +42,27 @@ state-back {s} g =
     let q : (4 * c + r) / 4 ≡ c = omega arith in
     block_at s (4 * c + r) (omega arith) ∙ (λ i. cell s (p i) (q i)))
 
-block_back : {b : List ℕ} → Block b → toBlock (toState b) ≡ b
-unfolding toBlock
+block_back : {b : List ℕ} → Block b → to_block (to_state b) ≡ b
+unfolding to_block
 block_back {b} g =
     sym
-    (tabulate-ext (λ k. cell (toState b) (k % 4) (k / 4)) 0 32 0 b g.long
+    (tabulate-ext (λ k. cell (to_state b) (k % 4) (k / 4)) 0 32 0 b g.long
     (λ k h.
     let e : k ≡ 4 * (k / 4) + k % 4 = omega arith in
     rw zero-add (ap (λ (j : ℕ). get_or b j 0) e ∙ sym (state-at b (k % 4) (k / 4) (omega arith) (omega arith)))))
 
-long : (s : List (List ℕ)) → length (toBlock s) ≡ 32
-unfolding toBlock
+long : (s : List (List ℕ)) → length (to_block s) ≡ 32
+unfolding to_block
 long s = length-tabulate _ 0 32
 
-block-good : {s : List (List ℕ)} → Good s → Block (toBlock s)
+block-good : {s : List (List ℕ)} → Good s → Block (to_block s)
 block-good {s} g =
     record {
       long = long s;
       bytes =
           λ k.
           ⊎_elim (λ h. rw (block_at s k h) (g.small (k % 4) (k / 4) (omega arith) (omega arith)))
-          (λ h. subst (λ (x : ℕ). x < 256) (sym (get_or-eq_default (toBlock s) 0 (omega (arith, long s)))) (lit< tt)) (lt-or-le k 32);
+          (λ h. subst (λ (x : ℕ). x < 256) (sym (get_or-eq_default (to_block s) 0 (omega (arith, long s)))) (lit< tt)) (lt-or-le k 32);
     }
 
 -- both ways round
@@ -79,16 +79,16 @@ pub decipher-cipher : (k : List ℕ) {b : List ℕ} → Block b → decipher k (
 unfolding cipher decipher
 decipher-cipher k {b} g =
     let s = state-good g in
-    ap (λ (t : List (List ℕ)). toBlock (decrypted (tabulate (invKeyWord k) 0 120) t)) (state-back (encrypted-good k s))
-    ∙ ap toBlock (decrypted-back k s)
+    ap (λ (t : List (List ℕ)). to_block (decrypted (tabulate (inv_key_word k) 0 120) t)) (state-back (encrypted-good k s))
+    ∙ ap to_block (decrypted-back k s)
     ∙ block_back g
 
 pub cipher-decipher : (k : List ℕ) {b : List ℕ} → Block b → cipher k (decipher k b) ≡ b
 unfolding cipher decipher
 cipher-decipher k {b} g =
     let s = state-good g in
-    ap (λ (t : List (List ℕ)). toBlock (encrypted (tabulate (keyWord k) 0 120) t)) (state-back (decrypted-good k s))
-    ∙ ap toBlock (encrypted-again k s)
+    ap (λ (t : List (List ℕ)). to_block (encrypted (tabulate (key_word k) 0 120) t)) (state-back (decrypted-good k s))
+    ∙ ap to_block (encrypted-again k s)
     ∙ block_back g
 
 -- so that no two blocks have one ciphertext under a key

@@ -5,13 +5,13 @@ use native.Mathlib.Omega.{arith}
 use lib.Bits.{xor_lt}
 use lib.Dec.{lit<}
 use Rattle.laws.proofs.Tests.{agree}
-use Rattle.gf256.specs.Field.{sumOver, timesSquares, inverse, turned, affine, sBox}
-use Rattle.inv_bytes.specs.Bytes.{invAffine, invSBox}
+use Rattle.gf256.specs.Field.{sum_over, times_squares, inverse, turned, affine, s_box}
+use Rattle.inv_bytes.specs.Bytes.{inv_affine, inv_s_box}
 use Rattle.both_ways.proofs.Sums.{over-small}
 
-squares-small : (n x r : ℕ) → x < 256 → r < 256 → timesSquares n x r < 256
+squares-small : (n x r : ℕ) → x < 256 → r < 256 → times_squares n x r < 256
 squares-small zero x r p q = q
-squares-small (suc n) x r p q = squares-small n (sumOver 8 x x) (sumOver 8 r (sumOver 8 x x)) (over-small 8 x x p) (over-small 8 r (sumOver 8 x x) (over-small 8 x x p))
+squares-small (suc n) x r p q = squares-small n (sum_over 8 x x) (sum_over 8 r (sum_over 8 x x)) (over-small 8 x x p) (over-small 8 r (sum_over 8 x x) (over-small 8 x x p))
 
 inverse-small : (x : ℕ) → x < 256 → inverse x < 256
 unfolding inverse
@@ -28,8 +28,8 @@ affine-small b h =
     let h3 = turned-small (turned (turned b)) h2 in
     xor_lt 8 _ _ h (xor_lt 8 _ _ h1 (xor_lt 8 _ _ h2 (xor_lt 8 _ _ h3 (xor_lt 8 _ _ (turned-small (turned (turned (turned b))) h3) (lit< tt)))))
 
-inv-affine-small : (b : ℕ) → b < 256 → invAffine b < 256
-unfolding invAffine
+inv-affine-small : (b : ℕ) → b < 256 → inv_affine b < 256
+unfolding inv_affine
 inv-affine-small b h =
     let h1 = turned-small b h in
     let h2 = turned-small (turned b) h1 in
@@ -42,26 +42,26 @@ inverse-twice : (x : ℕ) → x < 256 → inverse (inverse x) ≡ x
 unfolding inverse
 inverse-twice x h = agree (λ y. inverse (inverse y)) (λ y. y) 0 256 tt x zero-le h
 
-affine-back : (x : ℕ) → x < 256 → invAffine (affine x) ≡ x
-unfolding affine invAffine
-affine-back x h = agree (λ y. invAffine (affine y)) (λ y. y) 0 256 tt x zero-le h
+affine-back : (x : ℕ) → x < 256 → inv_affine (affine x) ≡ x
+unfolding affine inv_affine
+affine-back x h = agree (λ y. inv_affine (affine y)) (λ y. y) 0 256 tt x zero-le h
 
-affine-again : (x : ℕ) → x < 256 → affine (invAffine x) ≡ x
-unfolding affine invAffine
-affine-again x h = agree (λ y. affine (invAffine y)) (λ y. y) 0 256 tt x zero-le h
+affine-again : (x : ℕ) → x < 256 → affine (inv_affine x) ≡ x
+unfolding affine inv_affine
+affine-again x h = agree (λ y. affine (inv_affine y)) (λ y. y) 0 256 tt x zero-le h
 
-pub s-box-small : (x : ℕ) → x < 256 → sBox x < 256
-unfolding sBox
+pub s-box-small : (x : ℕ) → x < 256 → s_box x < 256
+unfolding s_box
 s-box-small x h = affine-small (inverse x) (inverse-small x h)
 
-pub inv-s-box-small : (x : ℕ) → x < 256 → invSBox x < 256
-unfolding invSBox
-inv-s-box-small x h = inverse-small (invAffine x) (inv-affine-small x h)
+pub inv-s-box-small : (x : ℕ) → x < 256 → inv_s_box x < 256
+unfolding inv_s_box
+inv-s-box-small x h = inverse-small (inv_affine x) (inv-affine-small x h)
 
-pub s-box-back : (x : ℕ) → x < 256 → invSBox (sBox x) ≡ x
-unfolding sBox invSBox
+pub s-box-back : (x : ℕ) → x < 256 → inv_s_box (s_box x) ≡ x
+unfolding s_box inv_s_box
 s-box-back x h = ap inverse (affine-back (inverse x) (inverse-small x h)) ∙ inverse-twice x h
 
-pub s-box-again : (x : ℕ) → x < 256 → sBox (invSBox x) ≡ x
-unfolding sBox invSBox
-s-box-again x h = ap affine (inverse-twice (invAffine x) (inv-affine-small x h)) ∙ affine-again x h
+pub s-box-again : (x : ℕ) → x < 256 → s_box (inv_s_box x) ≡ x
+unfolding s_box inv_s_box
+s-box-again x h = ap affine (inverse-twice (inv_affine x) (inv-affine-small x h)) ∙ affine-again x h

@@ -11,13 +11,13 @@ use Rattle.laws.specs.Lists.{tabulate, cell, grid}
 use Rattle.laws.proofs.Lists.{length-tabulate, get_d_tabulate}
 use Rattle.laws.proofs.States.{Shape, columns-all, grid-at}
 use Rattle.laws.proofs.Xor.{xor-back}
-use Rattle.gf256.specs.Field.{sBox}
+use Rattle.gf256.specs.Field.{s_box}
 use Rattle.words.specs.Words.{byte_of}
 use Rattle.words.proofs.Bytes.{joined}
-use Rattle.round_steps.specs.Steps.{byteSub, shift_of, shiftRow, mixedByte, mixColumn, addRoundKey}
-use Rattle.inv_bytes.specs.Bytes.{invSBox, invMixedByte}
-use Rattle.inv_parts.specs.Steps.{invByteSub, invShiftRow, invMixColumn}
-use Rattle.inv_parts.specs.Schedule.{invMixedWord}
+use Rattle.round_steps.specs.Steps.{byte_sub, shift_of, shift_row, mixed_byte, mix_column, add_round_key}
+use Rattle.inv_bytes.specs.Bytes.{inv_s_box, inv_mixed_byte}
+use Rattle.inv_parts.specs.Steps.{inv_byte_sub, inv_shift_row, inv_mix_column}
+use Rattle.inv_parts.specs.Schedule.{inv_mixed_word}
 use Rattle.both_ways.proofs.Columns.{unmixed, mixed-again, mixed-small, unmixed-small, unmixed-sum}
 use Rattle.both_ways.proofs.SBoxes.{s-box-small, inv-s-box-small, s-box-back, s-box-again}
 
@@ -92,29 +92,29 @@ right-left c k hc hk = omega arith
 -- ByteSub and ShiftRow, one after the other, and their inverses
 
 abbrev pub sub : List (List ℕ) → List (List ℕ)
-sub s = shiftRow (byteSub s)
+sub s = shift_row (byte_sub s)
 
 abbrev pub unsub : List (List ℕ) → List (List ℕ)
-unsub s = invShiftRow (invByteSub s)
+unsub s = inv_shift_row (inv_byte_sub s)
 
 pub sub-good : {s : List (List ℕ)} → Good s → Good (sub s)
-unfolding byteSub shiftRow
-sub-good = through-good sBox (λ r c. (c + shift_of r) % 8) (λ r c hr hc. mod-lt _ (lit< tt)) s-box-small
+unfolding byte_sub shift_row
+sub-good = through-good s_box (λ r c. (c + shift_of r) % 8) (λ r c hr hc. mod-lt _ (lit< tt)) s-box-small
 
 pub unsub-good : {s : List (List ℕ)} → Good s → Good (unsub s)
-unfolding invByteSub invShiftRow
-unsub-good = through-good invSBox (λ r c. (c + (8 - shift_of r)) % 8) (λ r c hr hc. mod-lt _ (lit< tt)) inv-s-box-small
+unfolding inv_byte_sub inv_shift_row
+unsub-good = through-good inv_s_box (λ r c. (c + (8 - shift_of r)) % 8) (λ r c hr hc. mod-lt _ (lit< tt)) inv-s-box-small
 
 pub unsub-sub : {s : List (List ℕ)} → Good s → unsub (sub s) ≡ s
-unfolding byteSub shiftRow invByteSub invShiftRow
+unfolding byte_sub shift_row inv_byte_sub inv_shift_row
 unsub-sub =
-    through-back sBox (λ r c. (c + shift_of r) % 8) (λ r c hr hc. mod-lt _ (lit< tt)) invSBox (λ r c. (c + (8 - shift_of r)) % 8) (λ r c hr hc. mod-lt _ (lit< tt))
+    through-back s_box (λ r c. (c + shift_of r) % 8) (λ r c hr hc. mod-lt _ (lit< tt)) inv_s_box (λ r c. (c + (8 - shift_of r)) % 8) (λ r c hr hc. mod-lt _ (lit< tt))
     s-box-back (λ r c hr hc. left-right c (shift_of r) hc (shift_small r hr))
 
 pub sub-unsub : {s : List (List ℕ)} → Good s → sub (unsub s) ≡ s
-unfolding byteSub shiftRow invByteSub invShiftRow
+unfolding byte_sub shift_row inv_byte_sub inv_shift_row
 sub-unsub =
-    through-back invSBox (λ r c. (c + (8 - shift_of r)) % 8) (λ r c hr hc. mod-lt _ (lit< tt)) sBox (λ r c. (c + shift_of r) % 8) (λ r c hr hc. mod-lt _ (lit< tt))
+    through-back inv_s_box (λ r c. (c + (8 - shift_of r)) % 8) (λ r c hr hc. mod-lt _ (lit< tt)) s_box (λ r c. (c + shift_of r) % 8) (λ r c hr hc. mod-lt _ (lit< tt))
     s-box-again (λ r c hr hc. right-left c (shift_of r) hc (shift_small r hr))
 
 -- each byte from its column, from its own row on downwards
@@ -155,45 +155,45 @@ columns-back m n back {s} g = is-grid _ g.shape (λ r c hr hc. row c hc r hr)
         ((λ i. n (a2 i) (a3 i) (a0 i) (a1 i)) ∙ back _ _ _ _ s2 s3 s0 s1)
         ((λ i. n (a3 i) (a0 i) (a1 i) (a2 i)) ∙ back _ _ _ _ s3 s0 s1 s2)
 
-pub mix-good : {s : List (List ℕ)} → Good s → Good (mixColumn s)
-unfolding mixColumn
-mix-good = columns-good mixedByte mixed-small
+pub mix-good : {s : List (List ℕ)} → Good s → Good (mix_column s)
+unfolding mix_column
+mix-good = columns-good mixed_byte mixed-small
 
-pub unmix-good : {s : List (List ℕ)} → Good s → Good (invMixColumn s)
-unfolding invMixColumn
-unmix-good = columns-good invMixedByte unmixed-small
+pub unmix-good : {s : List (List ℕ)} → Good s → Good (inv_mix_column s)
+unfolding inv_mix_column
+unmix-good = columns-good inv_mixed_byte unmixed-small
 
-pub unmix-mix : {s : List (List ℕ)} → Good s → invMixColumn (mixColumn s) ≡ s
-unfolding mixColumn invMixColumn
-unmix-mix = columns-back mixedByte invMixedByte unmixed
+pub unmix-mix : {s : List (List ℕ)} → Good s → inv_mix_column (mix_column s) ≡ s
+unfolding mix_column inv_mix_column
+unmix-mix = columns-back mixed_byte inv_mixed_byte unmixed
 
-pub mix-unmix : {s : List (List ℕ)} → Good s → mixColumn (invMixColumn s) ≡ s
-unfolding mixColumn invMixColumn
-mix-unmix = columns-back invMixedByte mixedByte mixed-again
+pub mix-unmix : {s : List (List ℕ)} → Good s → mix_column (inv_mix_column s) ≡ s
+unfolding mix_column inv_mix_column
+mix-unmix = columns-back inv_mixed_byte mixed_byte mixed-again
 
 -- round keys
 
 byte_small : (x r : ℕ) → byte_of x r < 256
 byte_small x r = mod-lt _ (lit< tt)
 
-pub key-good : (w : List ℕ) (n : ℕ) {s : List (List ℕ)} → Good s → Good (addRoundKey w n s)
-unfolding addRoundKey
+pub key-good : (w : List ℕ) (n : ℕ) {s : List (List ℕ)} → Good s → Good (add_round_key w n s)
+unfolding add_round_key
 key-good w n {s} g = grid-good _ (λ r c hr hc. xor_lt 8 _ _ (g.small r c hr hc) (byte_small (get_or w (8 * n + c) 0) r))
 
-pub key_twice : (w : List ℕ) (n : ℕ) {s : List (List ℕ)} → Good s → addRoundKey w n (addRoundKey w n s) ≡ s
-unfolding addRoundKey
+pub key_twice : (w : List ℕ) (n : ℕ) {s : List (List ℕ)} → Good s → add_round_key w n (add_round_key w n s) ≡ s
+unfolding add_round_key
 key_twice w n {s} g =
     is-grid _ g.shape
     (λ r c hr hc. ap (λ (x : ℕ). bit_xor x (byte_of (get_or w (8 * n + c) 0) r)) (grid-at _ refl r c hr hc) ∙ xor-back (cell s r c) (byte_of (get_or w (8 * n + c) 0) r))
 
 -- the same eight words, the same sum
-pub key-same : (v w : List ℕ) (n : ℕ) (s : List (List ℕ)) → ((c : ℕ) → c < 8 → get_or v (8 * n + c) 0 ≡ get_or w (8 * n + c) 0) → addRoundKey v n s ≡ addRoundKey w n s
-unfolding addRoundKey
+pub key-same : (v w : List ℕ) (n : ℕ) (s : List (List ℕ)) → ((c : ℕ) → c < 8 → get_or v (8 * n + c) 0 ≡ get_or w (8 * n + c) 0) → add_round_key v n s ≡ add_round_key w n s
+unfolding add_round_key
 key-same v w n s e = grid-ext _ _ (λ r c hr hc. ap (λ (x : ℕ). bit_xor (cell s r c) (byte_of x r)) (e c hc))
 
 -- a byte of a word that went through the inverse mixing
-word_byte : (x r : ℕ) → r < 4 → byte_of (invMixedWord x) r ≡ invMixedByte (byte_of x r) (byte_of x ((r + 1) % 4)) (byte_of x ((r + 2) % 4)) (byte_of x ((r + 3) % 4))
-unfolding invMixedWord
+word_byte : (x r : ℕ) → r < 4 → byte_of (inv_mixed_word x) r ≡ inv_mixed_byte (byte_of x r) (byte_of x ((r + 1) % 4)) (byte_of x ((r + 2) % 4)) (byte_of x ((r + 3) % 4))
+unfolding inv_mixed_word
 word_byte x =
     let s0 = byte_small x 0 in
     let s1 = byte_small x 1 in
@@ -204,25 +204,25 @@ word_byte x =
     let t2 = unmixed-small _ _ _ _ s2 s3 s0 s1 in
     let t3 = unmixed-small _ _ _ _ s3 s0 s1 s2 in
     let bytes = joined _ _ _ _ t0 t1 t2 t3 in
-    below-four (λ r. byte_of (invMixedWord x) r ≡ invMixedByte (byte_of x r) (byte_of x ((r + 1) % 4)) (byte_of x ((r + 2) % 4)) (byte_of x ((r + 3) % 4)))
+    below-four (λ r. byte_of (inv_mixed_word x) r ≡ inv_mixed_byte (byte_of x r) (byte_of x ((r + 1) % 4)) (byte_of x ((r + 2) % 4)) (byte_of x ((r + 3) % 4)))
     (λ i. get_or (bytes i) 0 0) (λ i. get_or (bytes i) 1 0) (λ i. get_or (bytes i) 2 0) (λ i. get_or (bytes i) 3 0)
 
 -- the inverse mixing and then a key that went through it: the key and then the inverse mixing
-pub key-through : (v w : List ℕ) (n : ℕ) {s : List (List ℕ)} → Good s → ((c : ℕ) → c < 8 → get_or v (8 * n + c) 0 ≡ invMixedWord (get_or w (8 * n + c) 0))
-    → addRoundKey v n (invMixColumn s) ≡ invMixColumn (addRoundKey w n s)
-unfolding addRoundKey invMixColumn
+pub key-through : (v w : List ℕ) (n : ℕ) {s : List (List ℕ)} → Good s → ((c : ℕ) → c < 8 → get_or v (8 * n + c) 0 ≡ inv_mixed_word (get_or w (8 * n + c) 0))
+    → add_round_key v n (inv_mix_column s) ≡ inv_mix_column (add_round_key w n s)
+unfolding add_round_key inv_mix_column
 key-through v w n {s} g e = grid-ext _ _ at
   where
     at : (r c : ℕ) → r < 4 → c < 8
-        → bit_xor (cell (grid 4 8 (downwards invMixedByte s)) r c) (byte_of (get_or v (8 * n + c) 0) r)
-        ≡ downwards invMixedByte (grid 4 8 (λ r c. bit_xor (cell s r c) (byte_of (get_or w (8 * n + c) 0) r))) r c
+        → bit_xor (cell (grid 4 8 (downwards inv_mixed_byte s)) r c) (byte_of (get_or v (8 * n + c) 0) r)
+        ≡ downwards inv_mixed_byte (grid 4 8 (λ r c. bit_xor (cell s r c) (byte_of (get_or w (8 * n + c) 0) r))) r c
     at r c hr hc =
         let x = get_or w (8 * n + c) 0 in
         let h1 : (r + 1) % 4 < 4 = mod-lt _ (lit< tt) in
         let h2 : (r + 2) % 4 < 4 = mod-lt _ (lit< tt) in
         let h3 : (r + 3) % 4 < 4 = mod-lt _ (lit< tt) in
         let sum : (k : ℕ) → k < 4 → cell (grid 4 8 (λ r c. bit_xor (cell s r c) (byte_of (get_or w (8 * n + c) 0) r))) k c ≡ bit_xor (cell s k c) (byte_of x k) = λ k hk. grid-at _ refl k c hk hc in
-        (λ i. bit_xor (grid-at (downwards invMixedByte s) refl r c hr hc i) ((ap (λ (y : ℕ). byte_of y r) (e c hc) ∙ word_byte x r hr) i))
+        (λ i. bit_xor (grid-at (downwards inv_mixed_byte s) refl r c hr hc i) ((ap (λ (y : ℕ). byte_of y r) (e c hc) ∙ word_byte x r hr) i))
         ∙ sym (unmixed-sum _ _ _ _ _ _ _ _ (g.small r c hr hc) (g.small ((r + 1) % 4) c h1 hc) (g.small ((r + 2) % 4) c h2 hc) (g.small ((r + 3) % 4) c h3 hc)
         (byte_small x r) (byte_small x ((r + 1) % 4)) (byte_small x ((r + 2) % 4)) (byte_small x ((r + 3) % 4)))
-        ∙ sym (λ i. invMixedByte (sum r hr i) (sum ((r + 1) % 4) h1 i) (sum ((r + 2) % 4) h2 i) (sum ((r + 3) % 4) h3 i))
+        ∙ sym (λ i. inv_mixed_byte (sum r hr i) (sum ((r + 1) % 4) h1 i) (sum ((r + 2) % 4) h2 i) (sum ((r + 3) % 4) h3 i))

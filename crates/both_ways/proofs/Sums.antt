@@ -7,15 +7,15 @@ use lib.Bits.{bit_xor, xor_lt, xor_comm}
 use lib.Dec.{eqb, lit<}
 use Rattle.laws.specs.Choice.{pick}
 use Rattle.laws.proofs.Xor.{xor_assoc, xor-middle}
-use Rattle.gf256.specs.Field.{timesZ, sumOver, times}
+use Rattle.gf256.specs.Field.{times_z, sum_over, times}
 use Rattle.gf256.proofs.Doubling.{linear}
 use Rattle.inv_bytes.proofs.Products.{z-double}
 
 -- z x, at a byte
-z-small : (x : ℕ) → x < 256 → timesZ x < 256
+z-small : (x : ℕ) → x < 256 → times_z x < 256
 z-small x h = rw (z-double x h) (xor_lt 8 (x % 128 * 2) (x / 128 * 27) (omega arith) (omega arith))
 
-z-sum : (x y : ℕ) → x < 256 → y < 256 → timesZ (bit_xor x y) ≡ bit_xor (timesZ x) (timesZ y)
+z-sum : (x y : ℕ) → x < 256 → y < 256 → times_z (bit_xor x y) ≡ bit_xor (times_z x) (times_z y)
 z-sum x y p q =
     z-double (bit_xor x y) (xor_lt 8 x y p q) ∙ linear x y p q ∙ sym (λ i. bit_xor (z-double x p i) (z-double y q i))
 
@@ -27,16 +27,16 @@ pick_small : (t : Bool) (x : ℕ) → x < 256 → pick t x 0 < 256
 pick_small true x h = h
 pick_small false x h = lit< tt
 
-over-sum : (n k x y : ℕ) → x < 256 → y < 256 → sumOver n k (bit_xor x y) ≡ bit_xor (sumOver n k x) (sumOver n k y)
+over-sum : (n k x y : ℕ) → x < 256 → y < 256 → sum_over n k (bit_xor x y) ≡ bit_xor (sum_over n k x) (sum_over n k y)
 over-sum zero k x y p q = refl
 over-sum (suc n) k x y p q =
-    (λ i. bit_xor (pick-sum (eqb (k % 2) 1) x y i) (sumOver n (k / 2) (z-sum x y p q i)))
-    ∙ ap (bit_xor (bit_xor (pick (eqb (k % 2) 1) x 0) (pick (eqb (k % 2) 1) y 0))) (over-sum n (k / 2) (timesZ x) (timesZ y) (z-small x p) (z-small y q))
-    ∙ xor-middle (pick (eqb (k % 2) 1) x 0) (pick (eqb (k % 2) 1) y 0) (sumOver n (k / 2) (timesZ x)) (sumOver n (k / 2) (timesZ y))
+    (λ i. bit_xor (pick-sum (eqb (k % 2) 1) x y i) (sum_over n (k / 2) (z-sum x y p q i)))
+    ∙ ap (bit_xor (bit_xor (pick (eqb (k % 2) 1) x 0) (pick (eqb (k % 2) 1) y 0))) (over-sum n (k / 2) (times_z x) (times_z y) (z-small x p) (z-small y q))
+    ∙ xor-middle (pick (eqb (k % 2) 1) x 0) (pick (eqb (k % 2) 1) y 0) (sum_over n (k / 2) (times_z x)) (sum_over n (k / 2) (times_z y))
 
-pub over-small : (n k x : ℕ) → x < 256 → sumOver n k x < 256
+pub over-small : (n k x : ℕ) → x < 256 → sum_over n k x < 256
 over-small zero k x h = lit< tt
-over-small (suc n) k x h = xor_lt 8 _ _ (pick_small (eqb (k % 2) 1) x h) (over-small n (k / 2) (timesZ x) (z-small x h))
+over-small (suc n) k x h = xor_lt 8 _ _ (pick_small (eqb (k % 2) 1) x h) (over-small n (k / 2) (times_z x) (z-small x h))
 
 -- maps of bytes that keep sums
 pub record Additive (f : ℕ → ℕ) : Type 0 where

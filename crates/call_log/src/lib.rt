@@ -2,7 +2,7 @@
 mod part;
 
 ghost use Rattle.std.specs.Prelude.{◌≡◌};
-ghost use Rattle.call_log.specs.Fed.{lineStart, call_of, ended, fedByte, fed, fedTo, endsLine, wrongLine};
+ghost use Rattle.call_log.specs.Fed.{line_start, call_of, ended, fed_byte, fed, fed_to, ends_line, wrong_line};
 
 use logged_calls::Call;
 use logged_calls::soundness::is_sound;
@@ -30,7 +30,7 @@ pub struct Month {
 
 // A log of which nothing is read.
 pub fn start() -> Month
-    ensures { result ≡ lineStart 1 }
+    ensures { result ≡ line_start 1 }
 {
     line_start(1)
 }
@@ -49,7 +49,7 @@ fn call_of(m: Month) -> Call
 
 // A line is ended.
 fn end_line(m: Month, figures: &mut [u64]) -> Month
-    ensures { fedTo result figures.new ≡ ended m figures.old }
+    ensures { fed_to result figures.new ≡ ended m figures.old }
 {
     let c = call_of(m);
     if MOST_LINES < m.line {
@@ -63,13 +63,13 @@ fn end_line(m: Month, figures: &mut [u64]) -> Month
 }
 
 fn ends_line(m: Month, b: u8) -> bool
-    ensures { result ≡ endsLine m b }
+    ensures { result ≡ ends_line m b }
 {
     b == 10 && (m.part == 4 && 9 <= m.at)
 }
 
 fn feed_byte(m: Month, figures: &mut [u64], b: u8) -> Month
-    ensures { fedTo result figures.new ≡ fedByte (fedTo m figures.old) b }
+    ensures { fed_to result figures.new ≡ fed_byte (fed_to m figures.old) b }
 {
     if !m.good {
         return m;
@@ -82,7 +82,7 @@ fn feed_byte(m: Month, figures: &mut [u64], b: u8) -> Month
 
 // The next block of a log. To feed two blocks one after the other is to feed them joined, wherever a line is cut.
 pub fn feed(m: Month, figures: &mut [u64], block: &[u8]) -> Month
-    ensures { fedTo result figures.new ≡ fed (fedTo m figures.old) block.now }
+    ensures { fed_to result figures.new ≡ fed (fed_to m figures.old) block.now }
 {
     let mut now = m;
     let mut i = 0;
@@ -96,7 +96,7 @@ pub fn feed(m: Month, figures: &mut [u64], block: &[u8]) -> Month
 
 // The first line that is wrong, once the log is over; 0 where there is none.
 pub fn wrong_line(m: Month) -> u64
-    ensures { result ≡ wrongLine m }
+    ensures { result ≡ wrong_line m }
 {
     if !m.good {
         return m.line;

@@ -1,6 +1,6 @@
 // A byte of a line: of a part's name, or of its number.
 ghost use Rattle.std.specs.Prelude.{◌≡◌, ◌-◌, ◌<◌, ◌≤◌, get_or};
-ghost use Rattle.call_log.specs.Fed.{fresh, lineStart, stopped, soFar, nextPart, high_of, nameByte, afterDigit, firstDigit, ofName, inLine};
+ghost use Rattle.call_log.specs.Fed.{fresh, line_start, stopped, so_far, next_part, high_of, name_byte, after_digit, first_digit, of_name, in_line};
 
 use crate::Month;
 use reading::{may_begin, may_follow};
@@ -27,7 +27,7 @@ fn fresh(line: u64, good: bool) -> Month
 }
 
 pub fn line_start(line: u64) -> Month
-    ensures { result ≡ lineStart line }
+    ensures { result ≡ line_start line }
 {
     fresh(line, true)
 }
@@ -39,7 +39,7 @@ pub fn stopped(line: u64) -> Month
 }
 
 fn so_far(m: Month, at: u64, number: u64) -> Month
-    ensures { result ≡ soFar m at number }
+    ensures { result ≡ so_far m at number }
 {
     Month {
         line: m.line,
@@ -56,7 +56,7 @@ fn so_far(m: Month, at: u64, number: u64) -> Month
 
 // The number joins the four before it.
 fn next_part(m: Month, part: u64) -> Month
-    ensures { result ≡ nextPart m part }
+    ensures { result ≡ next_part m part }
 {
     Month {
         line: m.line,
@@ -92,7 +92,7 @@ fn byte_of(name: &[u8], at: u64) -> u8
 }
 
 fn name_byte(part: u64, at: u64) -> u8
-    ensures { result ≡ nameByte part at }
+    ensures { result ≡ name_byte part at }
 {
     if part == 0 {
         return byte_of(b"slot=", at);
@@ -121,7 +121,7 @@ fn digit(b: u8) -> u64
 
 // A digit more, the space after a number, or neither.
 fn after_digit(m: Month, b: u8) -> Month
-    ensures { result ≡ afterDigit m b }
+    ensures { result ≡ after_digit m b }
 {
     if may_follow(high_of(m.part), m.number, b) {
         return so_far(m, IN_NUMBER, m.number * 10 + digit(b));
@@ -137,7 +137,7 @@ fn after_digit(m: Month, b: u8) -> Month
 
 // A byte behind a name: the first digit of its number.
 fn first_digit(m: Month, b: u8) -> Month
-    ensures { result ≡ firstDigit m b }
+    ensures { result ≡ first_digit m b }
 {
     if may_begin(0, high_of(m.part), b) {
         return so_far(m, IN_NUMBER, digit(b));
@@ -148,7 +148,7 @@ fn first_digit(m: Month, b: u8) -> Month
 // A byte of a name, which is to be this one.
 fn of_name(m: Month, name: u8, b: u8) -> Month
     requires { m.at < 9 }
-    ensures { result ≡ ofName m name b }
+    ensures { result ≡ of_name m name b }
 {
     if b == name {
         return so_far(m, m.at + 1, 0);
@@ -158,7 +158,7 @@ fn of_name(m: Month, name: u8, b: u8) -> Month
 
 // A byte that does not end a line.
 pub fn in_line(m: Month, b: u8) -> Month
-    ensures { result ≡ inLine m b }
+    ensures { result ≡ in_line m b }
 {
     if IN_NUMBER <= m.at {
         return after_digit(m, b);

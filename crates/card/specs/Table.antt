@@ -6,27 +6,27 @@ use Rattle.slots.specs.declared.Slot.{Slot}
 use Rattle.slot_calls.specs.declared.Changed.{Changed}
 use Rattle.slot_calls.specs.declared.Shown.{Shown}
 use Rattle.slots.specs.Slots.{slot_at}
-use Rattle.slot_list.specs.List.{isNoTable}
-use Rattle.slot_calls.specs.Calls.{loadedBy, movedBy, clearedBy, shownOf}
+use Rattle.slot_list.specs.List.{is_no_table}
+use Rattle.slot_calls.specs.Calls.{loaded_by, moved_by, cleared_by, shown_of}
 use Rattle.ciphering.specs.Span.{Ciphered}
-use Rattle.traffic.specs.Traffic.{trafficAnswerOf}
+use Rattle.traffic.specs.Traffic.{traffic_answer_of}
 use Rattle.whole.specs.declared.Pdu.{Pdu}
-use Rattle.whole.specs.Whole.{wholeAnswerOf}
+use Rattle.whole.specs.Whole.{whole_answer_of}
 
-abbrev pub loadedIn : List Slot → ℕ → Asked → List ℕ → Changed
-loadedIn t number a key = loadedBy (isNoTable t) t number a key
+abbrev pub loaded_in : List Slot → ℕ → Asked → List ℕ → Changed
+loaded_in t number a key = loaded_by (is_no_table t) t number a key
 
-abbrev pub movedIn : List Slot → ℕ → ℕ → ℕ → Changed
-movedIn t from to asked = movedBy (isNoTable t) t from to asked
+abbrev pub moved_in : List Slot → ℕ → ℕ → ℕ → Changed
+moved_in t from to asked = moved_by (is_no_table t) t from to asked
 
-abbrev pub clearedIn : List Slot → ℕ → Changed
-clearedIn t number = clearedBy (isNoTable t) t number
+abbrev pub cleared_in : List Slot → ℕ → Changed
+cleared_in t number = cleared_by (is_no_table t) t number
 
-abbrev pub shownIn : List Slot → ℕ → Shown
-shownIn t number = shownOf (isNoTable t) (slot_at t number) number
+abbrev pub shown_in : List Slot → ℕ → Shown
+shown_in t number = shown_of (is_no_table t) (slot_at t number) number
 
-abbrev pub trafficAnswerIn : List Slot → ℕ → ℕ → List ℕ → List ℕ → ℕ → ℕ → ℕ → Ciphered
-trafficAnswerIn t direction number iv buf start n skip = trafficAnswerOf (isNoTable t) (slot_at t number) direction number iv buf start n skip
+abbrev pub traffic_answer_in : List Slot → ℕ → ℕ → List ℕ → List ℕ → ℕ → ℕ → ℕ → Ciphered
+traffic_answer_in t direction number iv buf start n skip = traffic_answer_of (is_no_table t) (slot_at t number) direction number iv buf start n skip
 
-abbrev pub wholeAnswerIn : List Slot → ℕ → ℕ → List ℕ → List ℕ → Pdu → Ciphered
-wholeAnswerIn t direction number iv buf u = wholeAnswerOf (isNoTable t) (slot_at t number) direction number iv buf u
+abbrev pub whole_answer_in : List Slot → ℕ → ℕ → List ℕ → List ℕ → Pdu → Ciphered
+whole_answer_in t direction number iv buf u = whole_answer_of (is_no_table t) (slot_at t number) direction number iv buf u

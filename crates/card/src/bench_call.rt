@@ -1,7 +1,7 @@
 // The bench call, for C.
 ghost use Rattle.std.specs.Prelude.{◌≡◌};
-ghost use Rattle.bench.specs.Bench.{benchAnswer};
-ghost use Rattle.ciphering.specs.Span.{cipheredAs};
+ghost use Rattle.bench.specs.Bench.{bench_answer};
+ghost use Rattle.ciphering.specs.Span.{ciphered_as};
 
 // Writes keystream bits 0 to n - 1 from bit 0 of the buffer on, keeps its later bits, and reports how many blocks were made.
 #[unsafe(no_mangle)]
@@ -13,8 +13,8 @@ pub extern "C" fn card_bench(
     n: usize,
     blocks: &mut usize,
 ) -> u8
-    ensures { cipheredAs result buf.new blocks.new
-        ≡ benchAnswer algorithm key.now iv.now buf.old n }
+    ensures { ciphered_as result buf.new blocks.new
+        ≡ bench_answer algorithm key.now iv.now buf.old n }
 {
     let report = bench::bench(algorithm, key, iv, buf, n);
     *blocks = report.blocks;

@@ -1,7 +1,7 @@
 // The plan of a direct mode PDU, for C.
 ghost use Rattle.std.specs.Prelude.{◌≡◌};
 ghost use Rattle.plan.specs.Plan.{plan_of};
-ghost use Rattle.faces.specs.Faces.{plannedAs, plannedOut};
+ghost use Rattle.faces.specs.Faces.{planned_as, planned_out};
 
 // Leaves start, length and skip of the first piece and of the second in `pieces`; zeros where there is none, and on a refusal.
 #[unsafe(no_mangle)]
@@ -14,7 +14,7 @@ pub extern "C" fn card_plan(
     sdu: usize,
     pieces: &mut [usize; 6],
 ) -> u8
-    ensures { plannedAs result pieces.new ≡ plannedOut (plan_of kind state flag length address sdu) }
+    ensures { planned_as result pieces.new ≡ planned_out (plan_of kind state flag length address sdu) }
 {
     let p = plan::plan_pdu(kind, state, flag, length, address, sdu);
     *pieces = faces::piece_numbers(p);

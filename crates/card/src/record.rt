@@ -1,7 +1,7 @@
 // Key records as text, for C.
 ghost use Rattle.std.specs.Prelude.{◌≡◌};
-ghost use Rattle.record_reader.specs.Record.{recordRead};
-ghost use Rattle.faces.specs.Faces.{asking, readAs, readOut, writtenAs, writtenOut};
+ghost use Rattle.record_reader.specs.Record.{record_read};
+ghost use Rattle.faces.specs.Faces.{asking, read_as, read_out, written_as, written_out};
 
 use faces::{asked_for, shown_numbers};
 
@@ -16,8 +16,8 @@ pub extern "C" fn card_record_read(
     line: &mut usize,
     column: &mut usize,
 ) -> u8
-    ensures { readAs result shown.new key.new used.new line.new column.new
-        ≡ readOut (recordRead text.now) }
+    ensures { read_as result shown.new key.new used.new line.new column.new
+        ≡ read_out (record_read text.now) }
 {
     let r = record_reader::read_record(text);
     let k = r.key;
@@ -44,8 +44,8 @@ pub extern "C" fn card_record_write(
     buf: &mut [u8],
     length: &mut usize,
 ) -> u8
-    ensures { writtenAs result length.new buf.new
-        ≡ writtenOut number (asking version algorithm usage side place mcc mnc) key.now buf.old }
+    ensures { written_as result length.new buf.new
+        ≡ written_out number (asking version algorithm usage side place mcc mnc) key.now buf.old }
 {
     let asked = asked_for(version, algorithm, usage, side, place, mcc, mnc);
     let w = record_writer::write_record(number, asked, *key, buf);

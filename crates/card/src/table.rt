@@ -1,9 +1,9 @@
 // The slot calls on a table that the caller lends: 32 slot records behind a pointer. Each is judged by what its slots show, and reads a key only where it is
 // not refused and needs one: so a refused call has no key to leave behind.
 ghost use Rattle.std.specs.Prelude.{◌≡◌};
-ghost use Rattle.faces.specs.Faces.{asking, pduAs, changedAs, shownAs};
-ghost use Rattle.ciphering.specs.Span.{cipheredAs};
-ghost use Rattle.card.specs.Table.{loadedIn, movedIn, clearedIn, shownIn, trafficAnswerIn, wholeAnswerIn};
+ghost use Rattle.faces.specs.Faces.{asking, pdu_as, changed_as, shown_as};
+ghost use Rattle.ciphering.specs.Span.{ciphered_as};
+ghost use Rattle.card.specs.Table.{loaded_in, moved_in, cleared_in, shown_in, traffic_answer_in, whole_answer_in};
 
 use faces::{load_from, pdu_from, plan_from, show_from, traffic_from};
 use slot_calls::key_slot;
@@ -25,8 +25,8 @@ pub extern "C" fn card_load(
     mnc: u64,
     key: &[u8; 24],
 ) -> u8
-    ensures { changedAs result t.new
-        ≡ loadedIn t.old number (asking version algorithm usage side place mcc mnc) key.now }
+    ensures { changed_as result t.new
+        ≡ loaded_in t.old number (asking version algorithm usage side place mcc mnc) key.now }
 {
     let put = load_from(
         is_no_table(t),
@@ -47,7 +47,7 @@ pub extern "C" fn card_load(
 // Carries a filled slot to an empty one, with a use that lies within the present one.
 #[unsafe(no_mangle)]
 pub extern "C" fn card_move(t: &mut [Slot], from: u64, to: u64, asked: u64) -> u8
-    ensures { changedAs result t.new ≡ movedIn t.old from to asked }
+    ensures { changed_as result t.new ≡ moved_in t.old from to asked }
 {
     let refusal = slot_calls::move_refusal(
         is_no_table(t),
@@ -65,7 +65,7 @@ pub extern "C" fn card_move(t: &mut [Slot], from: u64, to: u64, asked: u64) -> u
 // Empties a filled slot.
 #[unsafe(no_mangle)]
 pub extern "C" fn card_clear(t: &mut [Slot], number: u64) -> u8
-    ensures { changedAs result t.new ≡ clearedIn t.old number }
+    ensures { changed_as result t.new ≡ cleared_in t.old number }
 {
     let put = slot_puts::clear_of(is_no_table(t), fields_in(t, number), number);
     put_slot(t, number, put)
@@ -85,7 +85,7 @@ pub extern "C" fn card_read<'a>(
     mcc: &'a mut u16,
     mnc: &'a mut u16,
 ) -> u8
-    ensures { shownAs result found.new version.new algorithm.new usage.new side.new place.new mcc.new mnc.new ≡ shownIn t.now number }
+    ensures { shown_as result found.new version.new algorithm.new usage.new side.new place.new mcc.new mnc.new ≡ shown_in t.now number }
 {
     show_from(
         is_no_table(t),
@@ -115,8 +115,8 @@ pub extern "C" fn card_traffic<'a>(
     skip: usize,
     blocks: &'a mut usize,
 ) -> u8
-    ensures { cipheredAs result buf.new blocks.new
-        ≡ trafficAnswerIn t.now direction number iv.now buf.old start n skip }
+    ensures { ciphered_as result buf.new blocks.new
+        ≡ traffic_answer_in t.now direction number iv.now buf.old start n skip }
 {
     let refusal = traffic_refusal(
         is_no_table(t),
@@ -149,8 +149,8 @@ pub extern "C" fn card_pdu<'a>(
     sdu: usize,
     blocks: &'a mut usize,
 ) -> u8
-    ensures { cipheredAs result buf.new blocks.new
-        ≡ wholeAnswerIn t.now direction number iv.now buf.old (pduAs kind state length address sdu) }
+    ensures { ciphered_as result buf.new blocks.new
+        ≡ whole_answer_in t.now direction number iv.now buf.old (pdu_as kind state length address sdu) }
 {
     let p = plan_from(
         is_no_table(t),

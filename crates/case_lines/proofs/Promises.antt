@@ -12,13 +12,13 @@ use lib.Seq.{ext_get_or}
 use borrow.Author.Tests.{eqb-false, not-true}
 use Rattle.laws.proofs.Cases.{lt-or-le, eq-or-ne, and_left, and_right}
 use Rattle.laws.proofs.Lists.{tabulate-at}
-use Rattle.writing.specs.Text.{digits, hexDigit, hexText}
-use Rattle.forms.specs.Hexes.{hexValue}
+use Rattle.writing.specs.Text.{digits, hex_digit, hex_text}
+use Rattle.forms.specs.Hexes.{hex_value}
 use Rattle.forms.proofs.Hexes.{value-small, digit-of-value}
 use Rattle.writing.proofs.Puts.{length-hex}
-use Rattle.lines.specs.Line.{afterSpaces, part}
+use Rattle.lines.specs.Line.{after_spaces, part}
 use Rattle.line_values.specs.Parts.{number_of, are_bytes, bytes_of}
-use Rattle.case_reader.specs.Case.{joined, caseLine, Narrow, SomeBytes, GoodCase, lastPart, is_number, numbersReadable, isReadable, case_of}
+use Rattle.case_reader.specs.Case.{joined, case_line, Narrow, SomeBytes, GoodCase, last_part, is_number, numbers_readable, is_readable, case_of}
 use Rattle.line_values.proofs.Digits.{number-text}
 use Rattle.line_values.proofs.Hexes.{even, digit_at, length-bytes}
 use Rattle.case_reader.proofs.Passed.{key-readable, iv-readable, buffer-readable}
@@ -30,58 +30,58 @@ Spelt w v = (w ≡ digits v) × Narrow v
 
 -- the text of bytes is their hex digits
 
-pub hex-first : (l : List ℕ) (i : ℕ) → i < length l → get_or (hexText l) (2 * i) 0 ≡ hexDigit (get_or l i 0 / 16)
-unfolding hexText
+pub hex-first : (l : List ℕ) (i : ℕ) → i < length l → get_or (hex_text l) (2 * i) 0 ≡ hex_digit (get_or l i 0 / 16)
+unfolding hex_text
 hex-first [] i h = absurd (omega arith)
 hex-first (b ∷ l) zero h = refl
 hex-first (b ∷ l) (suc i) h =
     let z : 2 * suc i ≡ suc (suc (2 * i)) = omega arith in
-    ap (λ (k : ℕ). get_or (hexText (b ∷ l)) k 0) z ∙ hex-first l i (omega arith)
+    ap (λ (k : ℕ). get_or (hex_text (b ∷ l)) k 0) z ∙ hex-first l i (omega arith)
 
-pub hex-second : (l : List ℕ) (i : ℕ) → i < length l → get_or (hexText l) (2 * i + 1) 0 ≡ hexDigit (get_or l i 0 % 16)
-unfolding hexText
+pub hex-second : (l : List ℕ) (i : ℕ) → i < length l → get_or (hex_text l) (2 * i + 1) 0 ≡ hex_digit (get_or l i 0 % 16)
+unfolding hex_text
 hex-second [] i h = absurd (omega arith)
 hex-second (b ∷ l) zero h = refl
 hex-second (b ∷ l) (suc i) h =
     let z : 2 * suc i + 1 ≡ suc (suc (2 * i + 1)) = omega arith in
-    ap (λ (k : ℕ). get_or (hexText (b ∷ l)) k 0) z ∙ hex-second l i (omega arith)
+    ap (λ (k : ℕ). get_or (hex_text (b ∷ l)) k 0) z ∙ hex-second l i (omega arith)
 
 module _ (s : List ℕ) (e : are_bytes s ≡ true) where
-  byte-is : (i : ℕ) → i < length s / 2 → get_or (bytes_of s) i 0 ≡ hexValue (get_or s (2 * i) 0) * 16 + hexValue (get_or s (2 * i + 1) 0)
+  byte-is : (i : ℕ) → i < length s / 2 → get_or (bytes_of s) i 0 ≡ hex_value (get_or s (2 * i) 0) * 16 + hex_value (get_or s (2 * i + 1) 0)
   unfolding bytes_of
   byte-is i h = tabulate-at _ 0 refl i h
 
-  first : (i : ℕ) → i < length s / 2 → get_or (hexText (bytes_of s)) (2 * i) 0 ≡ get_or s (2 * i) 0
+  first : (i : ℕ) → i < length s / 2 → get_or (hex_text (bytes_of s)) (2 * i) 0 ≡ get_or s (2 * i) 0
   first i h =
       let d = digit_at s e (2 * i) (omega arith) in
       let f = digit_at s e (2 * i + 1) (omega (arith, even s e)) in
-      let z : get_or (bytes_of s) i 0 / 16 ≡ hexValue (get_or s (2 * i) 0) = omega (arith, byte-is i h, value-small _ d, value-small _ f) in
-      hex-first (bytes_of s) i (omega (arith, length-bytes s)) ∙ ap hexDigit z ∙ digit-of-value (get_or s (2 * i) 0) d
+      let z : get_or (bytes_of s) i 0 / 16 ≡ hex_value (get_or s (2 * i) 0) = omega (arith, byte-is i h, value-small _ d, value-small _ f) in
+      hex-first (bytes_of s) i (omega (arith, length-bytes s)) ∙ ap hex_digit z ∙ digit-of-value (get_or s (2 * i) 0) d
 
-  second : (i : ℕ) → i < length s / 2 → get_or (hexText (bytes_of s)) (2 * i + 1) 0 ≡ get_or s (2 * i + 1) 0
+  second : (i : ℕ) → i < length s / 2 → get_or (hex_text (bytes_of s)) (2 * i + 1) 0 ≡ get_or s (2 * i + 1) 0
   second i h =
       let d = digit_at s e (2 * i) (omega arith) in
       let f = digit_at s e (2 * i + 1) (omega (arith, even s e)) in
-      let z : get_or (bytes_of s) i 0 % 16 ≡ hexValue (get_or s (2 * i + 1) 0) = omega (arith, byte-is i h, value-small _ d, value-small _ f) in
-      hex-second (bytes_of s) i (omega (arith, length-bytes s)) ∙ ap hexDigit z ∙ digit-of-value (get_or s (2 * i + 1) 0) f
+      let z : get_or (bytes_of s) i 0 % 16 ≡ hex_value (get_or s (2 * i + 1) 0) = omega (arith, byte-is i h, value-small _ d, value-small _ f) in
+      hex-second (bytes_of s) i (omega (arith, length-bytes s)) ∙ ap hex_digit z ∙ digit-of-value (get_or s (2 * i + 1) 0) f
 
-  long : length (hexText (bytes_of s)) ≡ length s
+  long : length (hex_text (bytes_of s)) ≡ length s
   long = omega (arith, length-hex (bytes_of s), length-bytes s, even s e)
 
-  each : (k : ℕ) → k < length (hexText (bytes_of s)) → get_or (hexText (bytes_of s)) k 0 ≡ get_or s k 0
+  each : (k : ℕ) → k < length (hex_text (bytes_of s)) → get_or (hex_text (bytes_of s)) k 0 ≡ get_or s k 0
   each k h =
       let l : k / 2 < length s / 2 = omega (arith, long, even s e) in
       ⊎_elim
       (λ (q : k % 2 ≡ 0).
       let z : k ≡ 2 * (k / 2) = omega arith in
-      ap (λ (j : ℕ). get_or (hexText (bytes_of s)) j 0) z ∙ first (k / 2) l ∙ ap (λ (j : ℕ). get_or s j 0) (sym z))
+      ap (λ (j : ℕ). get_or (hex_text (bytes_of s)) j 0) z ∙ first (k / 2) l ∙ ap (λ (j : ℕ). get_or s j 0) (sym z))
       (λ (n : k % 2 ≡ 0 → ⊥).
       let z : k ≡ 2 * (k / 2) + 1 = omega arith in
-      ap (λ (j : ℕ). get_or (hexText (bytes_of s)) j 0) z ∙ second (k / 2) l ∙ ap (λ (j : ℕ). get_or s j 0) (sym z))
+      ap (λ (j : ℕ). get_or (hex_text (bytes_of s)) j 0) z ∙ second (k / 2) l ∙ ap (λ (j : ℕ). get_or s j 0) (sym z))
       (eq-or-ne (k % 2) 0)
 
-  bytes-text : s ≡ hexText (bytes_of s)
-  bytes-text = sym (ext_get_or 0 (hexText (bytes_of s)) s long each)
+  bytes-text : s ≡ hex_text (bytes_of s)
+  bytes-text = sym (ext_get_or 0 (hex_text (bytes_of s)) s long each)
 
   some_bytes : 0 < length s
   unfolding are_bytes
@@ -103,23 +103,23 @@ module _ (s : List ℕ) (e : are_bytes s ≡ true) where
   )
 
 -- seven parts, one space apart
-module _ (line : List ℕ) (some : 0 < length (lastPart line)) where
-  from-5 : 0 < length (afterSpaces 5 line)
+module _ (line : List ℕ) (some : 0 < length (last_part line)) where
+  from-5 : 0 < length (after_spaces 5 line)
   from-5 = some-before 5 line some
 
-  from-4 : 0 < length (afterSpaces 4 line)
+  from-4 : 0 < length (after_spaces 4 line)
   from-4 = some-before 4 line from-5
 
-  from-3 : 0 < length (afterSpaces 3 line)
+  from-3 : 0 < length (after_spaces 3 line)
   from-3 = some-before 3 line from-4
 
-  from-2 : 0 < length (afterSpaces 2 line)
+  from-2 : 0 < length (after_spaces 2 line)
   from-2 = some-before 2 line from-3
 
   seven : line
       ≡ joined (part 0 line)
-      (joined (part 1 line) (joined (part 2 line) (joined (part 3 line) (joined (part 4 line) (joined (part 5 line) (lastPart line))))))
-  unfolding afterSpaces
+      (joined (part 1 line) (joined (part 2 line) (joined (part 3 line) (joined (part 4 line) (joined (part 5 line) (last_part line))))))
+  unfolding after_spaces
   seven =
       cut_at 0 line (some-before 1 line from-2)
       ∙ ap (joined (part 0 line)) (cut_at 1 line from-2
@@ -129,10 +129,10 @@ module _ (line : List ℕ) (some : 0 < length (lastPart line)) where
       ∙ ap (joined (part 4 line)) (cut_at 5 line some)))))
 
 -- a readable line's numbers are numbers
-module _ (line : List ℕ) (e : isReadable line ≡ true) where
+module _ (line : List ℕ) (e : is_readable line ≡ true) where
   numbers : is_number 0 line && (is_number 3 line && (is_number 4 line && is_number 5 line)) ≡ true
-  unfolding isReadable numbersReadable
-  numbers = and_left (numbersReadable line) _ e
+  unfolding is_readable numbers_readable
+  numbers = and_left (numbers_readable line) _ e
 
   number-0 : Spelt (part 0 line) (number_of (part 0 line)).value
   number-0 = number-text (part 0 line) (and_left (is_number 0 line) _ numbers)
@@ -153,10 +153,10 @@ module _ (line : List ℕ) (e : isReadable line ≡ true) where
   number-5 = number-text (part 5 line) (and_right (is_number 4 line) _ past-3)
 
   -- it is the line of its case
-  pub line-is : line ≡ caseLine (case_of line)
-  unfolding caseLine case_of
+  pub line-is : line ≡ case_line (case_of line)
+  unfolding case_line case_of
   line-is =
-      seven line (some_bytes (lastPart line) (buffer-readable line e))
+      seven line (some_bytes (last_part line) (buffer-readable line e))
       ∙ (λ i.
       joined (number-0.0 i)
       (joined (bytes-text (part 1 line) (key-readable line e) i)
@@ -164,7 +164,7 @@ module _ (line : List ℕ) (e : isReadable line ≡ true) where
       (joined (number-3.0 i)
       (joined (number-4.0 i)
       (joined (number-5.0 i)
-      (bytes-text (lastPart line) (buffer-readable line e) i)))))))
+      (bytes-text (last_part line) (buffer-readable line e) i)))))))
 
   -- and the case is good
   pub case-good : GoodCase (case_of line)
@@ -177,9 +177,9 @@ module _ (line : List ℕ) (e : isReadable line ≡ true) where
         start = number-3.1;
         bits = number-4.1;
         skip = number-5.1;
-        buffer = bytes_small (lastPart line) (buffer-readable line e);
+        buffer = bytes_small (last_part line) (buffer-readable line e);
       }
 
 -- so two readable lines that say the same case are the same
-pub one_line : (s t : List ℕ) → isReadable s ≡ true → isReadable t ≡ true → case_of s ≡ case_of t → s ≡ t
-one_line s t e f h = line-is s e ∙ ap caseLine h ∙ sym (line-is t f)
+pub one_line : (s t : List ℕ) → is_readable s ≡ true → is_readable t ≡ true → case_of s ≡ case_of t → s ≡ t
+one_line s t e f h = line-is s e ∙ ap case_line h ∙ sym (line-is t f)

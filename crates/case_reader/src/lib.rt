@@ -2,7 +2,7 @@
 ghost use Rattle.std.specs.Prelude.{◌&&◌, ◌≡◌, ◌/◌, length};
 ghost use Rattle.lines.specs.Line.{part};
 ghost use Rattle.line_values.specs.Parts.{number_of, are_bytes};
-ghost use Rattle.case_reader.specs.Case.{is_number, lastPart, numbersReadable, bytesReadable, isReadable, case_of, refusalOf, Accepted};
+ghost use Rattle.case_reader.specs.Case.{is_number, last_part, numbers_readable, bytes_readable, is_readable, case_of, refusal_of, Accepted};
 
 use bench::keyed_refusal;
 use line_values::bytes::{are_bytes, read_bytes};
@@ -34,7 +34,7 @@ fn size(line: &[u8], k: usize) -> usize
 
 // How many bytes the buffer has.
 pub fn buffer_size(line: &[u8]) -> usize
-    ensures { result ≡ length (lastPart line.now) / 2 }
+    ensures { result ≡ length (last_part line.now) / 2 }
 {
     let bytes = after_spaces(line, 6);
     bytes.len() / 2
@@ -50,7 +50,7 @@ fn both(a: bool, b: bool) -> bool
 }
 
 fn numbers_readable(line: &[u8]) -> bool
-    ensures { result ≡ numbersReadable line.now }
+    ensures { result ≡ numbers_readable line.now }
 {
     both(
         is_number(line, 0),
@@ -68,7 +68,7 @@ fn is_bytes(line: &[u8], k: usize) -> bool
 }
 
 fn bytes_readable(line: &[u8]) -> bool
-    ensures { result ≡ bytesReadable line.now }
+    ensures { result ≡ bytes_readable line.now }
 {
     both(
         is_bytes(line, 1),
@@ -78,13 +78,13 @@ fn bytes_readable(line: &[u8]) -> bool
 
 // Has the line the form of a case?
 pub fn is_readable(line: &[u8]) -> bool
-    ensures { result ≡ isReadable line.now }
+    ensures { result ≡ is_readable line.now }
 {
     both(numbers_readable(line), bytes_readable(line))
 }
 
 pub fn case_refusal(line: &[u8]) -> u8
-    ensures { result ≡ refusalOf (case_of line.now) }
+    ensures { result ≡ refusal_of (case_of line.now) }
 {
     keyed_refusal(
         value(line, 0),

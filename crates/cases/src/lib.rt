@@ -4,8 +4,8 @@ mod answer;
 ghost use Rattle.std.specs.Prelude.{◌≡◌, ◌≤◌, length};
 ghost use Rattle.writing.specs.Text.{lf};
 ghost use Rattle.writing.specs.Writing.{Put};
-ghost use Rattle.lines.specs.Line.{pieceLength};
-ghost use Rattle.cases.specs.Answer.{caseText, answerText, answerRoom};
+ghost use Rattle.lines.specs.Line.{piece_length};
+ghost use Rattle.cases.specs.Answer.{case_text, answer_text, answer_room};
 
 use answer::put_accepted;
 use case_reader::{case_refusal, is_readable};
@@ -17,15 +17,15 @@ pub const ROOM: usize = 16532;
 
 // How many bytes the first line of a text takes, with its LF. A last line may lack it.
 pub fn line_length(s: &[u8]) -> usize
-    ensures { result ≡ pieceLength lf s.now }
+    ensures { result ≡ piece_length lf s.now }
 {
     piece_length(s, b'\n')
 }
 
 // The answer to a line without its LF.
 fn put_case(out: &mut [u8], line: &[u8]) -> usize
-    requires { answerRoom ≤ length out.old }
-    ensures { (result ≤ answerRoom) × Put out.old 0 (caseText line.now) out.new result }
+    requires { answer_room ≤ length out.old }
+    ensures { (result ≤ answer_room) × Put out.old 0 (case_text line.now) out.new result }
 {
     if !is_readable(line) {
         return put_bytes(out, 0, b"unreadable\n");
@@ -39,8 +39,8 @@ fn put_case(out: &mut [u8], line: &[u8]) -> usize
 
 // The answer to the first line of a text, at the front of the buffer, and its length. The bytes after it stay.
 pub fn put_answer(out: &mut [u8], s: &[u8]) -> usize
-    requires { answerRoom ≤ length out.old }
-    ensures { (result ≤ answerRoom) × Put out.old 0 (answerText s.now) out.new result }
+    requires { answer_room ≤ length out.old }
+    ensures { (result ≤ answer_room) × Put out.old 0 (answer_text s.now) out.new result }
 {
     let end = index_of(s, b'\n');
     if end == s.len() {

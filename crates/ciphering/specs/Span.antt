@@ -2,15 +2,15 @@
 -- and the key schedules that they fill (document 02, [10]). Assumes nothing: these are definitions.
 use Rattle.std.specs.Prelude.{◌||◌, List, ℕ, ◌+◌, ◌*◌, eqb, ltb}
 use Rattle.laws.specs.Choice.{pick}
-use Rattle.refusals.specs.Numbers.{done, lengthBad, bufferLarge, spanOutside, refuse}
-use Rattle.span.specs.Span.{longestBuffer, longestStream}
+use Rattle.refusals.specs.Numbers.{done, length_bad, buffer_large, span_outside, refuse}
+use Rattle.span.specs.Span.{longest_buffer, longest_stream}
 
 -- a buffer of `size` bytes, and n bits of it from `start` on with the keystream's bits from `skip` on
-unfoldable pub spanRefusal : ℕ → ℕ → ℕ → ℕ → ℕ
-spanRefusal size start n skip =
-    refuse (ltb longestBuffer size) bufferLarge
-    (refuse (eqb n 0 || ltb longestStream (skip + n)) lengthBad
-    (refuse (ltb (8 * size) (start + n)) spanOutside
+unfoldable pub span_refusal : ℕ → ℕ → ℕ → ℕ → ℕ
+span_refusal size start n skip =
+    refuse (ltb longest_buffer size) buffer_large
+    (refuse (eqb n 0 || ltb longest_stream (skip + n)) length_bad
+    (refuse (ltb (8 * size) (start + n)) span_outside
     done))
 
 -- the answer, part by part as its caller has it: the refusal, the buffer afterwards and the blocks reported
@@ -19,9 +19,9 @@ pub record Ciphered : Type 0 where
   pub buffer : List ℕ
   pub blocks : ℕ
 
-abbrev pub cipheredAs : ℕ → List ℕ → ℕ → Ciphered
-cipheredAs refusal buffer blocks = record { refusal = refusal; buffer = buffer; blocks = blocks }
+abbrev pub ciphered_as : ℕ → List ℕ → ℕ → Ciphered
+ciphered_as refusal buffer blocks = record { refusal = refusal; buffer = buffer; blocks = blocks }
 
 -- the key schedules that a call fills, by the blocks that it makes: one, and none where it makes no block, as a refused call does
-abbrev pub schedulesFor : ℕ → ℕ
-schedulesFor blocks = pick (eqb blocks 0) 0 1
+abbrev pub schedules_for : ℕ → ℕ
+schedules_for blocks = pick (eqb blocks 0) 0 1

@@ -1,6 +1,6 @@
 // Refusals 5, 4 and 6.
 ghost use Rattle.std.specs.Prelude.{◌≡◌, ◌+◌, ltb};
-ghost use Rattle.ciphering.specs.Span.{spanRefusal};
+ghost use Rattle.ciphering.specs.Span.{span_refusal};
 
 // Is a + b above the limit? The sum is not made: it may be too large for a machine number.
 fn sum_above(limit: usize, a: usize, b: usize) -> bool
@@ -10,7 +10,7 @@ fn sum_above(limit: usize, a: usize, b: usize) -> bool
 }
 
 pub fn span_refusal(size: usize, start: usize, n: usize, skip: usize) -> u8
-    ensures { result ≡ spanRefusal size start n skip }
+    ensures { result ≡ span_refusal size start n skip }
 {
     if span::LONGEST_BUFFER < size {
         return refusals::BUFFER;

@@ -1,6 +1,6 @@
 // Does somebody else's conversion of records give no right more? (document 02, [11]) Reads both texts, and loads nothing.
 ghost use Rattle.std.specs.Prelude.{◌≡◌};
-ghost use Rattle.conversion.specs.Conversion.{checkedAs, namesChecked, rightsChecked, firstly, pairsChecked, conversionChecked};
+ghost use Rattle.conversion.specs.Conversion.{checked_as, names_checked, rights_checked, firstly, pairs_checked, conversion_checked};
 
 use conversion_pairs::{DIFFERING, MISNAMING, first_faulty, leaves_out, pair_count};
 use gathering::gather;
@@ -17,14 +17,14 @@ pub struct Checked {
 }
 
 fn answer(refusal: u8, place: usize) -> Checked
-    ensures { result ≡ checkedAs refusal place }
+    ensures { result ≡ checked_as refusal place }
 {
     Checked { refusal, place }
 }
 
 // 23: above 32 pairs; the first pair that names a number not there or already named on its side; an after record without a pair.
 fn check_names(before: [Slot; 32], after: [Slot; 32], pairs: &[u64]) -> Checked
-    ensures { result ≡ namesChecked before after pairs.now }
+    ensures { result ≡ names_checked before after pairs.now }
 {
     if MOST_PAIRS < pair_count(pairs) {
         return answer(refusals::PAIR_LIST, 0);
@@ -41,7 +41,7 @@ fn check_names(before: [Slot; 32], after: [Slot; 32], pairs: &[u64]) -> Checked
 
 // 24: the first pair that widens or differs.
 fn check_rights(before: [Slot; 32], after: [Slot; 32], pairs: &[u64]) -> Checked
-    ensures { result ≡ rightsChecked before after pairs.now }
+    ensures { result ≡ rights_checked before after pairs.now }
 {
     let place = first_faulty(DIFFERING, before, after, pairs);
     if place != 0 {
@@ -61,7 +61,7 @@ fn firstly(first: Checked, later: Checked) -> Checked
 }
 
 fn check_pairs(before: [Slot; 32], after: [Slot; 32], pairs: &[u64]) -> Checked
-    ensures { result ≡ pairsChecked before after pairs.now }
+    ensures { result ≡ pairs_checked before after pairs.now }
 {
     let names = check_names(before, after, pairs);
     let rights = check_rights(before, after, pairs);
@@ -70,7 +70,7 @@ fn check_pairs(before: [Slot; 32], after: [Slot; 32], pairs: &[u64]) -> Checked
 
 // The whole check.
 pub fn check<'a>(before: &'a [u8], after: &'a [u8], pairs: &'a [u64]) -> Checked
-    ensures { result ≡ conversionChecked before.now after.now pairs.now }
+    ensures { result ≡ conversion_checked before.now after.now pairs.now }
 {
     let b = gather(before);
     let a = gather(after);
@@ -93,7 +93,7 @@ pub extern "C" fn card_converted<'a>(
     pairs: &'a [u64],
     place: &mut usize,
 ) -> u8
-    ensures { checkedAs result place.new ≡ conversionChecked before.now after.now pairs.now }
+    ensures { checked_as result place.new ≡ conversion_checked before.now after.now pairs.now }
 {
     let c = check(before, after, pairs);
     *place = c.place;

@@ -1,7 +1,7 @@
 // The pairs of a conversion, and the faults of each (document 02, [11]): a flat list of before number, after number, and so on. One that is
 // missing counts as 0, which is no record's number.
 ghost use Rattle.std.specs.Prelude.{◌≡◌, ◌<◌, ◌≤◌};
-ghost use Rattle.conversion_pairs.specs.Pairs.{pairCount, numberOn, namedOn, isThere, misnamesOn, misnames, differs, faulty, firstFaulty, leftOut, leavesOut};
+ghost use Rattle.conversion_pairs.specs.Pairs.{pair_count, number_on, named_on, is_there, misnames_on, misnames, differs, faulty, first_faulty, left_out, leaves_out};
 
 use agreement::agrees;
 use slots::{Slot, is_filled};
@@ -19,15 +19,15 @@ pub const DIFFERING: bool = false;
 const SLOTS: u64 = 32;
 
 pub fn pair_count(pairs: &[u64]) -> usize
-    ensures { result ≡ pairCount pairs.now }
+    ensures { result ≡ pair_count pairs.now }
 {
     pairs.len() / 2 + pairs.len() % 2
 }
 
 // The number of pair i on a side.
 fn number_on(side: usize, pairs: &[u64], i: usize) -> u64
-    requires { (side ≤ 1) × (i < pairCount pairs.now) }
-    ensures { result ≡ numberOn side pairs.now i }
+    requires { (side ≤ 1) × (i < pair_count pairs.now) }
+    ensures { result ≡ number_on side pairs.now i }
 {
     let at = 2 * i + side;
     if at < pairs.len() {
@@ -38,8 +38,8 @@ fn number_on(side: usize, pairs: &[u64], i: usize) -> u64
 
 // Does one of the first `count` pairs name the number on a side?
 fn is_named(side: usize, pairs: &[u64], n: u64, count: usize) -> bool
-    requires { (side ≤ 1) × (count ≤ pairCount pairs.now) }
-    ensures { result ≡ namedOn side pairs.now n count }
+    requires { (side ≤ 1) × (count ≤ pair_count pairs.now) }
+    ensures { result ≡ named_on side pairs.now n count }
 {
     let mut named = false;
     let mut i = 0;
@@ -53,15 +53,15 @@ fn is_named(side: usize, pairs: &[u64], n: u64, count: usize) -> bool
 }
 
 fn is_there(table: [Slot; 32], n: u64) -> bool
-    ensures { result ≡ isThere table n }
+    ensures { result ≡ is_there table n }
 {
     is_filled(slot_or_empty(table, n))
 }
 
 // The number of pair i on a side is not there, or an earlier pair names it on that side.
 fn misnames_on(side: usize, table: [Slot; 32], pairs: &[u64], i: usize) -> bool
-    requires { (side ≤ 1) × (i < pairCount pairs.now) }
-    ensures { result ≡ misnamesOn side table pairs.now i }
+    requires { (side ≤ 1) × (i < pair_count pairs.now) }
+    ensures { result ≡ misnames_on side table pairs.now i }
 {
     let n = number_on(side, pairs, i);
     if !is_there(table, n) {
@@ -71,7 +71,7 @@ fn misnames_on(side: usize, table: [Slot; 32], pairs: &[u64], i: usize) -> bool
 }
 
 fn misnames(before: [Slot; 32], after: [Slot; 32], pairs: &[u64], i: usize) -> bool
-    requires { i < pairCount pairs.now }
+    requires { i < pair_count pairs.now }
     ensures { result ≡ misnames before after pairs.now i }
 {
     if misnames_on(BEFORE, before, pairs, i) {
@@ -81,7 +81,7 @@ fn misnames(before: [Slot; 32], after: [Slot; 32], pairs: &[u64], i: usize) -> b
 }
 
 fn differs(before: [Slot; 32], after: [Slot; 32], pairs: &[u64], i: usize) -> bool
-    requires { i < pairCount pairs.now }
+    requires { i < pair_count pairs.now }
     ensures { result ≡ differs before after pairs.now i }
 {
     let from = number_on(BEFORE, pairs, i);
@@ -91,7 +91,7 @@ fn differs(before: [Slot; 32], after: [Slot; 32], pairs: &[u64], i: usize) -> bo
 
 // Does pair i have the fault that is looked for?
 fn is_faulty(naming: bool, before: [Slot; 32], after: [Slot; 32], pairs: &[u64], i: usize) -> bool
-    requires { i < pairCount pairs.now }
+    requires { i < pair_count pairs.now }
     ensures { result ≡ faulty naming before after pairs.now i }
 {
     if naming {
@@ -102,7 +102,7 @@ fn is_faulty(naming: bool, before: [Slot; 32], after: [Slot; 32], pairs: &[u64],
 
 // The place of the first pair with the fault that is looked for, counted from 1; 0 where there is none.
 pub fn first_faulty(naming: bool, before: [Slot; 32], after: [Slot; 32], pairs: &[u64]) -> usize
-    ensures { result ≡ firstFaulty naming before after pairs.now }
+    ensures { result ≡ first_faulty naming before after pairs.now }
 {
     let count = pair_count(pairs);
     let mut i = 0;
@@ -117,7 +117,7 @@ pub fn first_faulty(naming: bool, before: [Slot; 32], after: [Slot; 32], pairs: 
 
 // Is the number an after record's, and does no pair name it?
 fn is_left_out(after: [Slot; 32], pairs: &[u64], n: u64) -> bool
-    ensures { result ≡ leftOut after pairs.now n }
+    ensures { result ≡ left_out after pairs.now n }
 {
     if !is_there(after, n) {
         return false;
@@ -127,7 +127,7 @@ fn is_left_out(after: [Slot; 32], pairs: &[u64], n: u64) -> bool
 
 // Is there an after record that no pair names?
 pub fn leaves_out(after: [Slot; 32], pairs: &[u64]) -> bool
-    ensures { result ≡ leavesOut after pairs.now 32 }
+    ensures { result ≡ leaves_out after pairs.now 32 }
 {
     let mut out = false;
     let mut i: u64 = 0;

@@ -1,13 +1,13 @@
 // The parts of the program's input: a text up to its first empty line, what stands behind it, and the lines of pairs.
 ghost use Rattle.std.specs.Prelude.{◌≡◌, suc, ◌≤◌, length, get_or, drop};
-ghost use Rattle.reading.specs.Reading.{wrongAt};
-ghost use Rattle.conversion_sheet.specs.Input.{textSize, spacedNumber, beforeRead, named_by, lineSize, pairsRead};
+ghost use Rattle.reading.specs.Reading.{wrong_at};
+ghost use Rattle.conversion_sheet.specs.Input.{text_size, spaced_number, before_read, named_by, line_size, pairs_read};
 
 use reading::{Reading, good_to, may_begin, may_follow, read_line, read_literal};
 
 // How many bytes stand before the first empty line.
 pub fn text_size(s: &[u8]) -> usize
-    ensures { (result ≡ textSize s.now) × (result ≤ length s.now) }
+    ensures { (result ≡ text_size s.now) × (result ≤ length s.now) }
 {
     let mut starts = true;
     let mut i = 0;
@@ -44,7 +44,7 @@ fn byte_at(s: &[u8], at: usize) -> u8
 }
 
 fn not_read() -> Reading
-    ensures { result ≡ wrongAt 0 }
+    ensures { result ≡ wrong_at 0 }
 {
     Reading {
         good: false,
@@ -55,7 +55,7 @@ fn not_read() -> Reading
 
 // A number of a record with a space behind it, of its first three bytes; the place is that behind it in a line.
 fn spaced_number(b: u8, c: u8, d: u8) -> Reading
-    ensures { result ≡ spacedNumber b c d }
+    ensures { result ≡ spaced_number b c d }
 {
     if !may_begin(1, 32, b) {
         return not_read();
@@ -75,7 +75,7 @@ fn spaced_number(b: u8, c: u8, d: u8) -> Reading
 
 // `before=B` and a space, at the front of a text.
 fn read_before(s: &[u8]) -> Reading
-    ensures { result ≡ beforeRead s.now }
+    ensures { result ≡ before_read s.now }
 {
     let name = read_literal(s, good_to(0, 0), b"before=");
     if !name.good {
@@ -111,7 +111,7 @@ fn named_by(s: &[u8]) -> Named
 
 // The bytes of the first line, with its LF.
 fn line_size(s: &[u8]) -> usize
-    ensures { (result ≡ lineSize s.now) × (result ≤ length s.now) }
+    ensures { (result ≡ line_size s.now) × (result ≤ length s.now) }
 {
     let mut i = 0;
     while i < s.len() {
@@ -132,7 +132,7 @@ pub struct Numbers {
 
 // The numbers of the pairs, a line each, of at most 33 lines.
 pub fn read_pairs(s: &[u8]) -> Numbers
-    ensures { result ≡ pairsRead s.now }
+    ensures { result ≡ pairs_read s.now }
 {
     let mut numbers = [0u64; 66];
     let mut at = 0;

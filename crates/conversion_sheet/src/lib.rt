@@ -3,8 +3,8 @@ mod input;
 
 ghost use Rattle.std.specs.Prelude.{◌≡◌, ◌≤◌, length};
 ghost use Rattle.writing.specs.Writing.{Put};
-ghost use Rattle.conversion.specs.Conversion.{checkedAs};
-ghost use Rattle.conversion_sheet.specs.Report.{checkedText, conversionReport, reportRoom, reportOf};
+ghost use Rattle.conversion.specs.Conversion.{checked_as};
+ghost use Rattle.conversion_sheet.specs.Report.{checked_text, conversion_report, report_room, report_of};
 
 use conversion::{Checked, check};
 use conversion_pairs::pair_count;
@@ -26,8 +26,8 @@ pub struct Report {
 
 // The number of pairs, or the refusal and its pair.
 fn put_checked(buffer: &mut [u8], c: Checked, count: usize) -> usize
-    requires { reportRoom ≤ length buffer.old }
-    ensures { (result ≤ reportRoom) × Put buffer.old 0 (checkedText c count) buffer.new result }
+    requires { report_room ≤ length buffer.old }
+    ensures { (result ≤ report_room) × Put buffer.old 0 (checked_text c count) buffer.new result }
 {
     if c.refusal == refusals::DONE {
         return put_line(buffer, 0, b"converted=", count as u64);
@@ -37,7 +37,7 @@ fn put_checked(buffer: &mut [u8], c: Checked, count: usize) -> usize
 }
 
 fn report_of(c: Checked, count: usize) -> Report
-    ensures { result ≡ reportOf (checkedText c count) }
+    ensures { result ≡ report_of (checked_text c count) }
 {
     let mut text = [0u8; ROOM];
     let length = put_checked(&mut text, c, count);
@@ -46,7 +46,7 @@ fn report_of(c: Checked, count: usize) -> Report
 
 // The whole report.
 pub fn report_on(input: &[u8]) -> Report
-    ensures { result ≡ reportOf (conversionReport input.now) }
+    ensures { result ≡ report_of (conversion_report input.now) }
 {
     if LONGEST_INPUT < input.len() {
         return report_of(

@@ -2,7 +2,7 @@
 -- here reads a text or goes through a table. Assumes nothing: these are definitions.
 use Rattle.std.specs.Prelude.{◌≡◌, Bool, true, ◌⊎◌, List, [], ◌∷◌, ◌++◌, ℕ}
 use Rattle.rights.specs.Rights.{within}
-use Rattle.record_text.specs.Text.{formText, Good}
+use Rattle.record_text.specs.Text.{form_text, Good}
 use Rattle.record_reader.specs.Record.{Entry}
 
 -- stands in a list
@@ -20,7 +20,7 @@ pub record Opens (Rest : List ℕ → Type 0) (text : List ℕ) (e : Entry) : Ty
   pub two : Bool
   pub good : Good two e.number e.fields e.key
   pub rest : List ℕ
-  pub is : text ≡ formText two e.number e.fields e.key ++ rest
+  pub is : text ≡ form_text two e.number e.fields e.key ++ rest
   pub then : Rest rest
 
 abbrev pub Reads : List ℕ → List Entry → Type 0
@@ -85,7 +85,7 @@ pub record Converts (before after : List ℕ) (pairs : List Pair) : Type 0 where
   pub conforms : Conforms befores afters pairs
 
 -- a flat list of numbers as pairs. One that is missing counts as 0, which is no record's number
-abbrev pub pairsOf : List ℕ → List Pair
-pairsOf [] = []
-pairsOf (b ∷ []) = record { before = b; after = 0 } ∷ []
-pairsOf (b ∷ a ∷ l) = record { before = b; after = a } ∷ pairsOf l
+abbrev pub pairs_of : List ℕ → List Pair
+pairs_of [] = []
+pairs_of (b ∷ []) = record { before = b; after = 0 } ∷ []
+pairs_of (b ∷ a ∷ l) = record { before = b; after = a } ∷ pairs_of l

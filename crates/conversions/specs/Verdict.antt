@@ -1,10 +1,10 @@
 -- Each answer of the check with what it says, in the order of document 02, [11]: of a list of pairs that is checked, exactly one of these holds.
 -- Assumes nothing: these are definitions.
 use Rattle.std.specs.Prelude.{◌≡◌, List, ℕ, ◌+◌, ◌<◌, ◌≤◌, length, get_or}
-use Rattle.refusals.specs.Numbers.{conversionTextBad, pairListBad, pairDiffers}
+use Rattle.refusals.specs.Numbers.{conversion_text_bad, pair_list_bad, pair_differs}
 use Rattle.record_reader.specs.Record.{Entry}
 use Rattle.conversion.specs.declared.Checked.{Checked}
-use Rattle.conversion.specs.Conversion.{checkedAs, passes}
+use Rattle.conversion.specs.Conversion.{checked_as, passes}
 use Rattle.conversions.specs.Conforms.{In, Known, Pair, AlikeEntries, Numbered, Stands, Conforms}
 
 -- past the end only ever a default
@@ -41,14 +41,14 @@ pub record LeftOut (after : List Entry) (pairs : List Pair) : Type 0 where
 
 -- of two texts that read
 pub data OfPairs (before after : List Entry) (pairs : List Pair) (c : Checked) : Type 0 where
-  too_many : 32 < length pairs → c ≡ checkedAs pairListBad 0 → OfPairs before after pairs c
-  misnamed : length pairs ≤ 32 → (i : ℕ) → First (Misnames before after pairs) (length pairs) i → c ≡ checkedAs pairListBad (i + 1) → OfPairs before after pairs c
-  left_out : length pairs ≤ 32 → Never (Misnames before after pairs) (length pairs) → LeftOut after pairs → c ≡ checkedAs pairListBad 0 → OfPairs before after pairs c
+  too_many : 32 < length pairs → c ≡ checked_as pair_list_bad 0 → OfPairs before after pairs c
+  misnamed : length pairs ≤ 32 → (i : ℕ) → First (Misnames before after pairs) (length pairs) i → c ≡ checked_as pair_list_bad (i + 1) → OfPairs before after pairs c
+  left_out : length pairs ≤ 32 → Never (Misnames before after pairs) (length pairs) → LeftOut after pairs → c ≡ checked_as pair_list_bad 0 → OfPairs before after pairs c
   widened : length pairs ≤ 32 → Never (Misnames before after pairs) (length pairs) → (LeftOut after pairs → ⊥)
-      → (i : ℕ) → First (Differs before after pairs) (length pairs) i → c ≡ checkedAs pairDiffers (i + 1) → OfPairs before after pairs c
+      → (i : ℕ) → First (Differs before after pairs) (length pairs) i → c ≡ checked_as pair_differs (i + 1) → OfPairs before after pairs c
   conforming : Conforms before after pairs → c ≡ passes → OfPairs before after pairs c
 
 -- of any two texts
 pub data Verdict (before after : List ℕ) (pairs : List Pair) (c : Checked) : Type 0 where
-  unread : (Known before × Known after → ⊥) → c ≡ checkedAs conversionTextBad 0 → Verdict before after pairs c
+  unread : (Known before × Known after → ⊥) → c ≡ checked_as conversion_text_bad 0 → Verdict before after pairs c
   checked : (b : Known before) (a : Known after) → OfPairs b.records a.records pairs c → Verdict before after pairs c

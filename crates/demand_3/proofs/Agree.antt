@@ -34,13 +34,13 @@ module _ (card : Card) (facts : Local card) (chosen : Origin → Bool) (first : 
     abbrev call : Call
     call = traffic how buf w
 
-    abbrev seenOn : List Slot → Seen
-    seenOn table = (card.traffic table how buf w).seen
+    abbrev seen_on : List Slot → Seen
+    seen_on table = (card.traffic table how buf w).seen
 
-    same-refusal : (seenOn s.table).refusal ≡ (seenOn t.table).refusal
+    same-refusal : (seen_on s.table).refusal ≡ (seen_on t.table).refusal
     same-refusal = facts.refusal-blind s.table t.table h.alike how buf w
 
-    differs : (j : ℕ) → (seenOn s.table).refusal ≡ done → span_of w buf j ≡ true → Chosen chosen (s.trace how.number) → MayDiffer chosen call s.trace (seenOn s.table) j
+    differs : (j : ℕ) → (seen_on s.table).refusal ≡ done → span_of w buf j ≡ true → Chosen chosen (s.trace how.number) → MayDiffer chosen call s.trace (seen_on s.table) j
     differs j e inside origin = record {
       ciphers = record { how = how; buf = buf; work = w; origin = origin.first; call = refl; accepted = e; traced = origin.traced };
       inside = inside;
@@ -48,10 +48,10 @@ module _ (card : Card) (facts : Local card) (chosen : Origin → Bool) (first : 
     }
 
     abbrev Bit : ℕ → Type 0
-    Bit j = (bit_at (seenOn s.table).buffer j ≡ bit_at (seenOn t.table).buffer j) ⊎ MayDiffer chosen call s.trace (seenOn s.table) j
+    Bit j = (bit_at (seen_on s.table).buffer j ≡ bit_at (seen_on t.table).buffer j) ⊎ MayDiffer chosen call s.trace (seen_on s.table) j
 
     -- a call that was accepted, on a slot of two keys
-    two-keys : (j : ℕ) → (seenOn s.table).refusal ≡ done → Chosen chosen (s.trace how.number) → (t : Bool) → span_of w buf j ≡ t → Bit j
+    two-keys : (j : ℕ) → (seen_on s.table).refusal ≡ done → Chosen chosen (s.trace how.number) → (t : Bool) → span_of w buf j ≡ t → Bit j
     two-keys j e origin true inside = inr (differs j e inside origin)
     two-keys j e origin false beside =
         inl (facts.beside-stays s.table how buf w j beside ∙ sym (facts.beside-stays t.table how buf w j beside))
@@ -68,9 +68,9 @@ module _ (card : Card) (facts : Local card) (chosen : Origin → Bool) (first : 
         let left = facts.refused-stays s.table how buf w ne in
         let right = facts.refused-stays t.table how buf w (λ e. ne (same-refusal ∙ e)) in
         inl (ap (λ (l : List ℕ). bit_at l j) (left ∙ sym right)))
-        (eq-or-ne (seenOn s.table).refusal done)
+        (eq-or-ne (seen_on s.table).refusal done)
 
-    traffic-agree : Agree chosen call s.trace (seenOn s.table) (seenOn t.table)
+    traffic-agree : Agree chosen call s.trace (seen_on s.table) (seen_on t.table)
     traffic-agree = record {
       refusal = same-refusal;
       blocks = facts.blocks-blind s.table t.table h.alike how buf w;

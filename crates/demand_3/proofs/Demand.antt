@@ -11,14 +11,14 @@ use lib.ListN.{length}
 use Rattle.laws.specs.Bits.{bit_at}
 use Rattle.refusals.specs.Numbers.{done}
 use Rattle.slots.specs.declared.Slot.{Slot}
-use Rattle.slots.specs.Slots.{emptyTable, slot_at}
+use Rattle.slots.specs.Slots.{empty_table, slot_at}
 use Rattle.rights.specs.Rights.{includes}
 use Rattle.rights.proofs.Rights.{within-includes}
 use Rattle.two_runs.specs.Calls.{Use, Work, Call, read, traffic, Origin, Twins, end, more, Starts}
 use Rattle.two_runs.specs.Step.{Seen}
 use Rattle.two_runs.specs.Card.{Card, step}
-use Rattle.demand_3.specs.Ours.{ourCard}
-use Rattle.two_runs.specs.Run.{State, start_of, next, run, stateAt, call_at, seenIn, seen_at, table_at, traceAt}
+use Rattle.demand_3.specs.Ours.{our_card}
+use Rattle.two_runs.specs.Run.{State, start_of, next, run, state_at, call_at, seen_in, seen_at, table_at, trace_at}
 use Rattle.two_runs.specs.Demand.{Ciphers, Agree, given, IsSend, Kept, Meets, Demand3, Demand3FromEmpty}
 use Rattle.demand_3.proofs.Local.{Local}
 use Rattle.two_runs.proofs.Start.{empty-starts}
@@ -48,8 +48,8 @@ module _ (card : Card) (facts : Local card) (chosen : Origin → Bool) (first : 
   StandAt place cs = (k : ℕ) → call_at all (place + k) ≡ call_at cs k
 
   both_at : (s t : State) {cs ds : List Call} → StandAt s.place cs → Related chosen first all s t → Twins chosen s.place cs ds → (i : ℕ)
-      → Both (stateAt card s cs i) (stateAt card t ds i) (call_at cs i) (seenIn (run card s cs) i) (seenIn (run card t ds) i)
-  unfolding run stateAt next
+      → Both (state_at card s cs i) (state_at card t ds i) (call_at cs i) (seen_in (run card s cs) i) (seen_in (run card t ds) i)
+  unfolding run state_at next
   both_at s t stand h end i = record { related = h; agree = same-agrees chosen _ _ _ _ refl; seen = inr refl }
   both_at s t stand h (more w r) zero = record { related = h; agree = twins-agree card facts chosen first all s t h w; seen = inl refl }
   both_at s t stand h (more {c = c} {d = d} w r) (suc i) =
@@ -58,7 +58,7 @@ module _ (card : Card) (facts : Local card) (chosen : Origin → Bool) (first : 
       (related-next chosen first all card facts s t h (ap (call_at all) (sym (add-zero s.place)) ∙ stand 0) w) r i
 
 module _ (card : Card) (facts : Local card) (chosen : Origin → Bool) (a b : List Slot) (starts : Starts chosen a b) (cs ds : List Call) (twins : Twins chosen 0 cs ds) where
-  both : (i : ℕ) → Both card facts chosen a cs (stateAt card (start_of a) cs i) (stateAt card (start_of b) ds i) (call_at cs i) (seen_at card a cs i) (seen_at card b ds i)
+  both : (i : ℕ) → Both card facts chosen a cs (state_at card (start_of a) cs i) (state_at card (start_of b) ds i) (call_at cs i) (seen_at card a cs i) (seen_at card b ds i)
   both = both_at card facts chosen a cs (start_of a) (start_of b) (λ k. ap (call_at cs) (zero-add k)) (related-start chosen a cs b starts) twins
 
   -- a traffic call that was seen to be done was accepted on the table before it
@@ -70,7 +70,7 @@ module _ (card : Card) (facts : Local card) (chosen : Origin → Bool) (a b : Li
       (λ past. let none : ◌≡◌ {A = ℕ} 0 1 = cc (past, call) in absurd (omega arith))
       (both i).seen
 
-  sends-at : (i : ℕ) (c : Ciphers (call_at cs i) (traceAt card a cs i) (seen_at card a cs i)) → (given a cs c.origin).fields.usage ≡ 1 → IsSend c.how (given a cs c.origin).fields
+  sends-at : (i : ℕ) (c : Ciphers (call_at cs i) (trace_at card a cs i) (seen_at card a cs i)) → (given a cs c.origin).fields.usage ≡ 1 → IsSend c.how (given a cs c.origin).fields
   sends-at i c only =
       let e = taken i c.how c.buf c.work c.call c.accepted in
       let numbered = (facts.on-a-filled-slot _ c.how c.buf c.work e).numbered in
@@ -87,9 +87,9 @@ pub unwind : (card : Card) → Local card → Demand3 card
 unwind = meets
 
 -- the customer's sentence, from any table without a bad slot
-pub demand-3 : Demand3 ourCard
-demand-3 = unwind ourCard our-facts
+pub demand-3 : Demand3 our_card
+demand-3 = unwind our_card our-facts
 
 -- from the empty table
-pub demand-3-from-empty : Demand3FromEmpty ourCard
-demand-3-from-empty chosen = demand-3 chosen emptyTable emptyTable (empty-starts chosen)
+pub demand-3-from-empty : Demand3FromEmpty our_card
+demand-3-from-empty chosen = demand-3 chosen empty_table empty_table (empty-starts chosen)

@@ -7,20 +7,20 @@ use lib.ListN.{length}
 use Rattle.laws.specs.Bits.{bit_at}
 use Rattle.refusals.specs.Numbers.{done}
 use Rattle.fields.specs.declared.Asked.{Asked}
-use Rattle.fields.specs.Fields.{storedOf}
+use Rattle.fields.specs.Fields.{stored_of}
 use Rattle.slots.specs.declared.Slot.{Slot}
-use Rattle.slots.specs.Slots.{empty, slot_at, withSlot}
+use Rattle.slots.specs.Slots.{empty, slot_at, with_slot}
 use Rattle.rights.specs.Rights.{within, includes}
 use Rattle.slot_calls.proofs.Passed.{LoadPassed, MovePassed, SlotPassed, ClearPassed}
 use Rattle.slot_calls.proofs.Alike.{Alike}
 use Rattle.two_runs.specs.Calls.{Use, Work, span_of}
 use Rattle.two_runs.specs.Step.{Seen, Step}
 use Rattle.two_runs.specs.Card.{Card}
-use Rattle.two_runs.specs.Demand.{withUse}
+use Rattle.two_runs.specs.Demand.{with_use}
 
 -- the slot that an accepted load fills
-abbrev pub loadedSlot : Asked → List ℕ → Slot
-loadedSlot a key = record { fields = storedOf a; key = key }
+abbrev pub loaded_slot : Asked → List ℕ → Slot
+loaded_slot a key = record { fields = stored_of a; key = key }
 
 -- the same is seen, and the tables show the same afterwards
 pub record AlikeSteps (x y : Step) : Type 0 where
@@ -54,16 +54,16 @@ Blind card part =
 pub record Local (card : Card) : Type 0 where
   -- load answers the same on tables that show the same, whatever the keys; an accepted one passed its tests and puts what was asked, with its key
   pub load-blind : (a b : List Slot) (number : ℕ) (x : Asked) (key other : List ℕ) → Alike a b → AlikeSteps (card.load a number x key) (card.load b number x other)
-  pub load-leaves : (table : List Slot) (number : ℕ) (x : Asked) (key : List ℕ) → Leaves table (LoadPassed table number x) (withSlot table number (loadedSlot x key)) (card.load table number x key)
+  pub load-leaves : (table : List Slot) (number : ℕ) (x : Asked) (key : List ℕ) → Leaves table (LoadPassed table number x) (with_slot table number (loaded_slot x key)) (card.load table number x key)
   -- what a move brings has a use within the old one, and all else as it was; it empties the first slot and leaves all but the two
   pub move-keeps-use : Arriving card (λ old new. within new.fields.usage old.fields.usage ≡ true)
-  pub move-keeps-rest : Arriving card (λ old new. new ≡ withUse old new.fields.usage)
+  pub move-keeps-rest : Arriving card (λ old new. new ≡ with_use old new.fields.usage)
   pub move-blind : (a b : List Slot) (from to asked : ℕ) → Alike a b → AlikeSteps (card.move a from to asked) (card.move b from to asked)
   pub move-leaves : (table : List Slot) (from to asked : ℕ) → length table ≡ 32
-      → Leaves table (MovePassed table from to asked) (withSlot (withSlot table to (slot_at (card.move table from to asked).table to)) from empty) (card.move table from to asked)
+      → Leaves table (MovePassed table from to asked) (with_slot (with_slot table to (slot_at (card.move table from to asked).table to)) from empty) (card.move table from to asked)
   -- clear empties its slot and leaves the others
   pub clear-blind : (a b : List Slot) (number : ℕ) → Alike a b → AlikeSteps (card.clear a number) (card.clear b number)
-  pub clear-leaves : (table : List Slot) (number : ℕ) → Leaves table (ClearPassed table number) (withSlot table number empty) (card.clear table number)
+  pub clear-leaves : (table : List Slot) (number : ℕ) → Leaves table (ClearPassed table number) (with_slot table number empty) (card.clear table number)
   -- a read shows no key, and leaves the table as it is
   pub read-blind : (a b : List Slot) (number : ℕ) → Alike a b → (card.read a number).seen ≡ (card.read b number).seen
   pub read-leaves : (table : List Slot) (number : ℕ) → (card.read table number).table ≡ table

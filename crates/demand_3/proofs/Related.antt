@@ -14,22 +14,22 @@ use Rattle.laws.specs.Choice.{pick}
 use Rattle.laws.proofs.Cases.{and_left, and_right}
 use Rattle.refusals.specs.Numbers.{done}
 use Rattle.fields.specs.declared.Asked.{Asked}
-use Rattle.fields.specs.Fields.{isSlotNumber, isAlgorithm, isUse}
+use Rattle.fields.specs.Fields.{is_slot_number, is_algorithm, is_use}
 use Rattle.fields.proofs.Ranges.{between-low}
 use Rattle.slots.specs.declared.Slot.{Slot}
-use Rattle.slots.specs.Slots.{allZero, is_empty, isFilled, empty, slot_at, withSlot}
+use Rattle.slots.specs.Slots.{all_zero, is_empty, is_filled, empty, slot_at, with_slot}
 use Rattle.rights.specs.Rights.{within}
 use Rattle.rights.proofs.Rights.{within_same, within-trans}
 use Rattle.slots.proofs.Tables.{good-at}
 use Rattle.slot_calls.proofs.Left.{slot-stored, slot-other}
 use Rattle.slot_calls.proofs.Alike.{Alike}
-use Rattle.two_runs.specs.Calls.{Call, load, move, clear, read, traffic, Origin, loadAt, present, TwinCalls, same, other_key, TwinSlots, same-slot, other-present, Starts}
+use Rattle.two_runs.specs.Calls.{Call, load, move, clear, read, traffic, Origin, load_at, present, TwinCalls, same, other_key, TwinSlots, same-slot, other-present, Starts}
 use Rattle.two_runs.specs.Step.{Seen, Step}
 use Rattle.two_runs.specs.Card.{Card, step}
 use Rattle.two_runs.specs.Trace.{Trace, put, traced}
 use Rattle.two_runs.specs.Run.{State, start_of, accepted, next, call_at}
-use Rattle.two_runs.specs.Demand.{slotLoaded, given, withUse, Kept, Holds}
-use Rattle.demand_3.proofs.Local.{loadedSlot, AlikeSteps, Leaves, Local}
+use Rattle.two_runs.specs.Demand.{slot_loaded, given, with_use, Kept, Holds}
+use Rattle.demand_3.proofs.Local.{loaded_slot, AlikeSteps, Leaves, Local}
 use Rattle.two_runs.proofs.Start.{empty-else, alike-twins, twins-size, twins-at, unfilled-key}
 
 -- the origin is a chosen one
@@ -40,20 +40,20 @@ pub record Chosen (chosen : Origin → Bool) (origin : Option Origin) : Type 0 w
 
 -- what was given, where it was given, and in the slot that a move carries it to
 
-kept-itself : (s : Slot) → isFilled s ≡ true → Kept s s
-unfolding isFilled
+kept-itself : (s : Slot) → is_filled s ≡ true → Kept s s
+unfolding is_filled
 kept-itself s filled =
-    let use-known = and_left (isUse s.fields.usage) _ (and_right (isAlgorithm s.fields.algorithm) _ filled) in
+    let use-known = and_left (is_use s.fields.usage) _ (and_right (is_algorithm s.fields.algorithm) _ filled) in
     record { usage = within_same s.fields.usage use-known; rest = refl }
 
-kept-moved : (given : Slot) {x y : Slot} → within y.fields.usage x.fields.usage ≡ true → y ≡ withUse x y.fields.usage → Kept given x → Kept given y
+kept-moved : (given : Slot) {x y : Slot} → within y.fields.usage x.fields.usage ≡ true → y ≡ with_use x y.fields.usage → Kept given x → Kept given y
 kept-moved given {x} {y} narrow rest k = record {
   usage = within-trans y.fields.usage x.fields.usage given.fields.usage narrow k.usage;
-  rest = rest ∙ ap (λ (s : Slot). withUse s y.fields.usage) k.rest;
+  rest = rest ∙ ap (λ (s : Slot). with_use s y.fields.usage) k.rest;
 }
 
 empty-empty : is_empty empty ≡ true
-unfolding is_empty allZero
+unfolding is_empty all_zero
 empty-empty = refl
 
 module _ (chosen : Origin → Bool) (first : List Slot) (all : List Call) where
@@ -65,8 +65,8 @@ module _ (chosen : Origin → Bool) (first : List Slot) (all : List Call) where
   -- what a move makes of two slots
   record Moved (x y v w : Slot) : Type 0 where
     narrow : within v.fields.usage x.fields.usage ≡ true
-    rest : v ≡ withUse x v.fields.usage
-    rest' : w ≡ withUse y w.fields.usage
+    rest : v ≡ with_use x v.fields.usage
+    rest' : w ≡ with_use y w.fields.usage
 
   pair-moved : (origin : Option Origin) {x y v w : Slot} → is_empty x ≡ false → Moved x y v w → Pair origin x y → Pair origin v w
   pair-moved none filled m p = absurd (true≢false (sym p.holds ∙ filled))
@@ -82,18 +82,18 @@ module _ (chosen : Origin → Bool) (first : List Slot) (all : List Call) where
   pub record Pairs (trace : Trace) (a b : List Slot) : Type 0 where
     pub size : length a ≡ 32
     pub size' : length b ≡ 32
-    pub at : (n : ℕ) → isSlotNumber n ≡ true → Pair (trace n) (slot_at a n) (slot_at b n)
+    pub at : (n : ℕ) → is_slot_number n ≡ true → Pair (trace n) (slot_at a n) (slot_at b n)
 
-  pairs-put : {trace : Trace} {a b : List Slot} {origin : Option Origin} {x y : Slot} (number : ℕ) → isSlotNumber number ≡ true
-      → Pairs trace a b → Pair origin x y → Pairs (put number origin trace) (withSlot a number x) (withSlot b number y)
+  pairs-put : {trace : Trace} {a b : List Slot} {origin : Option Origin} {x y : Slot} (number : ℕ) → is_slot_number number ≡ true
+      → Pairs trace a b → Pair origin x y → Pairs (put number origin trace) (with_slot a number x) (with_slot b number y)
   pairs-put {trace} {a} {b} {origin} {x} {y} number h pairs p = record {
     size = length-set a (number - 1) x ∙ pairs.size;
     size' = length-set b (number - 1) y ∙ pairs.size';
     at = λ n l. go n l (eqb n number) refl;
   }
     where
-      go : (n : ℕ) → isSlotNumber n ≡ true → (t : Bool) → eqb n number ≡ t
-          → Pair (pick t origin (trace n)) (slot_at (withSlot a number x) n) (slot_at (withSlot b number y) n)
+      go : (n : ℕ) → is_slot_number n ≡ true → (t : Bool) → eqb n number ≡ t
+          → Pair (pick t origin (trace n)) (slot_at (with_slot a number x) n) (slot_at (with_slot b number y) n)
       go n l true e = rw (eqb-true n number e, slot-stored a number h x pairs.size, slot-stored b number h y pairs.size') p
       go n l false e =
           rw (slot-other a number h x n l (eqb-false n number e), slot-other b number h y n l (eqb-false n number e)) (pairs.at n l)
@@ -117,7 +117,7 @@ module _ (chosen : Origin → Bool) (first : List Slot) (all : List Call) where
       keys (same-slot s) = inl refl
       keys {n} (other-present f key other filled picked) = inr (record { first = present n; traced = refl; picked = picked })
 
-      go : (n : ℕ) → TwinSlots chosen n (slot_at first n) (slot_at second n) → (t : Bool) → isFilled (slot_at first n) ≡ t
+      go : (n : ℕ) → TwinSlots chosen n (slot_at first n) (slot_at second n) → (t : Bool) → is_filled (slot_at first n) ≡ t
           → Pair (pick t (some (present n)) none) (slot_at first n) (slot_at second n)
       go n twins true e = record { holds = kept-itself (slot_at first n) e; key = keys twins }
       go n twins false e = record {
@@ -125,10 +125,10 @@ module _ (chosen : Origin → Bool) (first : List Slot) (all : List Call) where
         key = inl (unfilled-key chosen twins e);
       }
 
-      at : (n : ℕ) → isSlotNumber n ≡ true → Pair ((start_of first).trace n) (slot_at first n) (slot_at second n)
+      at : (n : ℕ) → is_slot_number n ≡ true → Pair ((start_of first).trace n) (slot_at first n) (slot_at second n)
       at n h =
           let numbered : 1 + (n - 1) ≡ n = omega (arith, between-low 1 n 32 h) in
-          go n (subst (λ (m : ℕ). TwinSlots chosen m (slot_at first n) (slot_at second n)) numbered (twins-at chosen starts.twins (n - 1))) (isFilled (slot_at first n)) refl
+          go n (subst (λ (m : ℕ). TwinSlots chosen m (slot_at first n) (slot_at second n)) numbered (twins-at chosen starts.twins (n - 1))) (is_filled (slot_at first n)) refl
 
   module _ (card : Card) (facts : Local card) (s t : State) (h : Related s t) where
     -- a call that both tables refuse, or both take
@@ -152,16 +152,16 @@ module _ (chosen : Origin → Bool) (first : List Slot) (all : List Call) where
         → Related (record { place = place; table = a; trace = pick accepted s.trace s.trace }) (record { place = later; table = b; trace = behind })
     related-kept accepted e f = rw (e, f) (record { alike = h.alike; slots = pairs-same accepted h.slots })
 
-    related-load : (number : ℕ) (a : Asked) (key other : List ℕ) → call_at all s.place ≡ load number a key → (key ≡ other) ⊎ Chosen chosen (some (loadAt s.place))
+    related-load : (number : ℕ) (a : Asked) (key other : List ℕ) → call_at all s.place ≡ load number a key → (key ≡ other) ⊎ Chosen chosen (some (load_at s.place))
         → Related (next card s (load number a key)) (next card t (load number a other))
-    unfolding next step traced isFilled
+    unfolding next step traced is_filled
     related-load number a key other here keys =
         related-left
         (facts.load-blind s.table t.table number a key other h.alike)
         (facts.load-leaves s.table number a key)
         (facts.load-leaves t.table number a other)
         (λ e f passed.
-        let held = subst (λ (c : Call). Kept (slotLoaded c) (loadedSlot a key)) (sym here) (kept-itself (loadedSlot a key) passed.ranges) in
+        let held = subst (λ (c : Call). Kept (slot_loaded c) (loaded_slot a key)) (sym here) (kept-itself (loaded_slot a key) passed.ranges) in
         pairs-put number passed.numbered h.slots (record { holds = held; key = keys }))
 
     related_same : (c : Call) → call_at all s.place ≡ c → Related (next card s c) (next card t c)
@@ -196,4 +196,4 @@ module _ (chosen : Origin → Bool) (first : List Slot) (all : List Call) where
     pub related-next : {c d : Call} → call_at all s.place ≡ c → TwinCalls chosen s.place c d → Related (next card s c) (next card t d)
     related-next here (same c) = related_same c here
     related-next here (other_key number a key other picked) =
-        related-load number a key other here (inr (record { first = loadAt s.place; traced = refl; picked = picked }))
+        related-load number a key other here (inr (record { first = load_at s.place; traced = refl; picked = picked }))

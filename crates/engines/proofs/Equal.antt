@@ -8,7 +8,7 @@ use denote.Ref.{Bor}
 use Rattle.ciphering.specs.declared.Report.{Report}
 use Rattle.ciphering.specs.Span.{Ciphered}
 use Rattle.card.proofs.bench_call.card_bench.Reads as card-bench
-use Rattle.plain.specs.Given.{givenRefusal, givenBuffer, givenBlocks}
+use Rattle.plain.specs.Given.{given_refusal, given_buffer, given_blocks}
 use Rattle.plain.proofs.Given.{given-bench}
 use Rattle.plain.proofs.call.card_plain.Reads as card-plain
 use Rattle.engines.proofs.quick.Reads as quick
@@ -22,9 +22,9 @@ module _ (algorithm n : ℕ) (key iv buf key' iv' buf' : Bor (List ℕ)) (blocks
       → quick.Learnt κs' (algorithm, (key', (iv', (buf', (n, (skip, tt)))))) s e'
       → (r ≡ s.refusal) × (e.1.1.1.0.now ≡ e'.1.1.1.0.now) × (e.1.1.1.1.1.1.0.now ≡ s.blocks)
   plain-is-quick skip r s κs κs' e e' p q = (
-    p.0 ∙ (λ i. givenRefusal algorithm (same_key i) (same-iv i) (same-buf i) n skip) ∙ sym q.0,
-    p.1 ∙ (λ i. givenBuffer algorithm (same_key i) (same-iv i) (same-buf i) n skip) ∙ sym q.1,
-    p.2 ∙ (λ i. givenBlocks algorithm (same_key i) (same-iv i) (same-buf i) n skip) ∙ sym q.2,
+    p.0 ∙ (λ i. given_refusal algorithm (same_key i) (same-iv i) (same-buf i) n skip) ∙ sym q.0,
+    p.1 ∙ (λ i. given_buffer algorithm (same_key i) (same-iv i) (same-buf i) n skip) ∙ sym q.1,
+    p.2 ∙ (λ i. given_blocks algorithm (same_key i) (same-iv i) (same-buf i) n skip) ∙ sym q.2,
   )
 
   -- the bench call's number of blocks is its sixth parameter
@@ -34,7 +34,7 @@ module _ (algorithm n : ℕ) (key iv buf key' iv' buf' : Bor (List ℕ)) (blocks
       → (r ≡ s) × (e.1.1.1.0.now ≡ e'.1.1.1.0.now) × (e.1.1.1.1.1.1.0.now ≡ e'.1.1.1.1.1.0.now)
   plain-is-bench blocks' r s κs κs' e e' p q =
       let same = given-bench algorithm key'.now iv'.now buf'.now n in (
-        p.0 ∙ (λ i. givenRefusal algorithm (same_key i) (same-iv i) (same-buf i) n 0) ∙ same.0 ∙ sym (ap (λ (x : Ciphered). x.refusal) q),
-        p.1 ∙ (λ i. givenBuffer algorithm (same_key i) (same-iv i) (same-buf i) n 0) ∙ same.1 ∙ sym (ap (λ (x : Ciphered). x.buffer) q),
-        p.2 ∙ (λ i. givenBlocks algorithm (same_key i) (same-iv i) (same-buf i) n 0) ∙ same.2 ∙ sym (ap (λ (x : Ciphered). x.blocks) q),
+        p.0 ∙ (λ i. given_refusal algorithm (same_key i) (same-iv i) (same-buf i) n 0) ∙ same.0 ∙ sym (ap (λ (x : Ciphered). x.refusal) q),
+        p.1 ∙ (λ i. given_buffer algorithm (same_key i) (same-iv i) (same-buf i) n 0) ∙ same.1 ∙ sym (ap (λ (x : Ciphered). x.buffer) q),
+        p.2 ∙ (λ i. given_blocks algorithm (same_key i) (same-iv i) (same-buf i) n 0) ∙ same.2 ∙ sym (ap (λ (x : Ciphered). x.blocks) q),
       )

@@ -1,12 +1,12 @@
 // What C gives and gets one by one, beside the values that the calls work on.
 ghost use Rattle.std.specs.Prelude.{◌≡◌};
 ghost use Rattle.slots.specs.Slots.{keyless};
-ghost use Rattle.slot_calls.specs.Calls.{shownOf};
-ghost use Rattle.slot_calls.specs.Seen.{loadPut};
-ghost use Rattle.ciphering.specs.Span.{cipheredAs};
-ghost use Rattle.traffic.specs.Traffic.{TrafficMay, trafficAfter};
-ghost use Rattle.whole.specs.Whole.{judgedPlan, WholeMay, wholeAfter};
-ghost use Rattle.faces.specs.Faces.{asking, pduAs, shownAs, shownNumbers, pieceNumbers};
+ghost use Rattle.slot_calls.specs.Calls.{shown_of};
+ghost use Rattle.slot_calls.specs.Seen.{load_put};
+ghost use Rattle.ciphering.specs.Span.{ciphered_as};
+ghost use Rattle.traffic.specs.Traffic.{TrafficMay, traffic_after};
+ghost use Rattle.whole.specs.Whole.{judged_plan, WholeMay, whole_after};
+ghost use Rattle.faces.specs.Faces.{asking, pdu_as, shown_as, shown_numbers, piece_numbers};
 
 use fields::{Asked, Fields};
 use plan::Plan;
@@ -41,7 +41,7 @@ pub fn asked_for(
 
 // A record's number and fields, as its reader gets them.
 pub fn shown_numbers(number: u64, f: Fields) -> [u64; 8]
-    ensures { result ≡ shownNumbers number f }
+    ensures { result ≡ shown_numbers number f }
 {
     [
         number,
@@ -57,7 +57,7 @@ pub fn shown_numbers(number: u64, f: Fields) -> [u64; 8]
 
 // A plan's pieces, as its caller gets them.
 pub fn piece_numbers(p: Plan) -> [usize; 6]
-    ensures { result ≡ pieceNumbers p }
+    ensures { result ≡ piece_numbers p }
 {
     let a = p.first;
     let b = p.second;
@@ -79,7 +79,7 @@ pub fn load_from(
     mnc: u64,
     key: &[u8; 24],
 ) -> Put
-    ensures { result ≡ loadPut bad (keyless f) number (asking version algorithm usage side place mcc mnc) key.now }
+    ensures { result ≡ load_put bad (keyless f) number (asking version algorithm usage side place mcc mnc) key.now }
 {
     let asked = asked_for(version, algorithm, usage, side, place, mcc, mnc);
     let k = *key;
@@ -99,7 +99,7 @@ pub fn show_from<'a>(
     mcc: &'a mut u16,
     mnc: &'a mut u16,
 ) -> u8
-    ensures { shownAs result found.new version.new algorithm.new usage.new side.new place.new mcc.new mnc.new ≡ shownOf bad (keyless f) number }
+    ensures { shown_as result found.new version.new algorithm.new usage.new side.new place.new mcc.new mnc.new ≡ shown_of bad (keyless f) number }
 {
     let s = slot_puts::read_of(bad, f, number);
     let f = s.fields;
@@ -125,8 +125,8 @@ pub fn traffic_from<'a>(
     blocks: &'a mut usize,
 ) -> u8
     requires { TrafficMay refusal iv.now buf.old start n skip }
-    ensures { cipheredAs result buf.new blocks.new
-        ≡ trafficAfter refusal slot iv.now buf.old start n skip }
+    ensures { ciphered_as result buf.new blocks.new
+        ≡ traffic_after refusal slot iv.now buf.old start n skip }
 {
     let report = traffic_of(refusal, slot, iv, buf, start, n, skip);
     *blocks = report.blocks;
@@ -146,7 +146,7 @@ pub fn plan_from(
     address: usize,
     sdu: usize,
 ) -> Plan
-    ensures { result ≡ judgedPlan bad (keyless f) direction number iv.now buf.now (pduAs kind state length address sdu) }
+    ensures { result ≡ judged_plan bad (keyless f) direction number iv.now buf.now (pdu_as kind state length address sdu) }
 {
     let pdu = Pdu {
         kind,
@@ -166,7 +166,7 @@ pub fn pdu_from<'a>(
     blocks: &'a mut usize,
 ) -> u8
     requires { WholeMay p iv.now buf.old }
-    ensures { cipheredAs result buf.new blocks.new ≡ wholeAfter p slot iv.now buf.old }
+    ensures { ciphered_as result buf.new blocks.new ≡ whole_after p slot iv.now buf.old }
 {
     let report = whole_of(p, slot, iv, buf);
     *blocks = report.blocks;

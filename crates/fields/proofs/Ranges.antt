@@ -6,7 +6,7 @@ use borrow.Author.Tests.{leb-true}
 use lib.Dec.{leb}
 use Rattle.laws.proofs.Cases.{and_left, and_right}
 use Rattle.fields.specs.declared.Asked.{Asked}
-use Rattle.fields.specs.Fields.{between, isAlgorithm, isUse, isSide, isPlace, isMcc, isMnc, allInRange}
+use Rattle.fields.specs.Fields.{between, is_algorithm, is_use, is_side, is_place, is_mcc, is_mnc, all_in_range}
 
 pub between-low : (low n high : ℕ) → between low n high ≡ true → low ≤ n
 between-low low n high e = leb-true low n (and_left (leb low n) (leb n high) e)
@@ -14,33 +14,33 @@ between-low low n high e = leb-true low n (and_left (leb low n) (leb n high) e)
 pub between-high : (low n high : ℕ) → between low n high ≡ true → n ≤ high
 between-high low n high e = leb-true n high (and_right (leb low n) (leb n high) e)
 
-module _ (a : Asked) (e : allInRange a ≡ true) where
+module _ (a : Asked) (e : all_in_range a ≡ true) where
   pub algorithm-high : a.algorithm ≤ 7
-  algorithm-high = between-high 5 a.algorithm 7 (and_left (isAlgorithm a.algorithm) _ e)
+  algorithm-high = between-high 5 a.algorithm 7 (and_left (is_algorithm a.algorithm) _ e)
 
-  past-algorithm : isUse a.usage && (isSide a.side && (isPlace a.place && (isMcc a.mcc && isMnc a.mnc))) ≡ true
-  past-algorithm = and_right (isAlgorithm a.algorithm) _ e
+  past-algorithm : is_use a.usage && (is_side a.side && (is_place a.place && (is_mcc a.mcc && is_mnc a.mnc))) ≡ true
+  past-algorithm = and_right (is_algorithm a.algorithm) _ e
 
   pub use-high : a.usage ≤ 3
-  use-high = between-high 1 a.usage 3 (and_left (isUse a.usage) _ past-algorithm)
+  use-high = between-high 1 a.usage 3 (and_left (is_use a.usage) _ past-algorithm)
 
-  past-use : isSide a.side && (isPlace a.place && (isMcc a.mcc && isMnc a.mnc)) ≡ true
-  past-use = and_right (isUse a.usage) _ past-algorithm
+  past-use : is_side a.side && (is_place a.place && (is_mcc a.mcc && is_mnc a.mnc)) ≡ true
+  past-use = and_right (is_use a.usage) _ past-algorithm
 
   pub side-high : a.side ≤ 1
-  side-high = leb-true a.side 1 (and_left (isSide a.side) _ past-use)
+  side-high = leb-true a.side 1 (and_left (is_side a.side) _ past-use)
 
-  past-side : isPlace a.place && (isMcc a.mcc && isMnc a.mnc) ≡ true
-  past-side = and_right (isSide a.side) _ past-use
+  past-side : is_place a.place && (is_mcc a.mcc && is_mnc a.mnc) ≡ true
+  past-side = and_right (is_side a.side) _ past-use
 
   pub place-high : a.place ≤ 79
-  place-high = leb-true a.place 79 (and_left (isPlace a.place) _ past-side)
+  place-high = leb-true a.place 79 (and_left (is_place a.place) _ past-side)
 
-  past-place : isMcc a.mcc && isMnc a.mnc ≡ true
-  past-place = and_right (isPlace a.place) _ past-side
+  past-place : is_mcc a.mcc && is_mnc a.mnc ≡ true
+  past-place = and_right (is_place a.place) _ past-side
 
   pub mcc-high : a.mcc ≤ 1023
-  mcc-high = leb-true a.mcc 1023 (and_left (isMcc a.mcc) _ past-place)
+  mcc-high = leb-true a.mcc 1023 (and_left (is_mcc a.mcc) _ past-place)
 
   pub mnc-high : a.mnc ≤ 16383
-  mnc-high = leb-true a.mnc 16383 (and_right (isMcc a.mcc) _ past-place)
+  mnc-high = leb-true a.mnc 16383 (and_right (is_mcc a.mcc) _ past-place)

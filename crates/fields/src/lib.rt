@@ -1,6 +1,6 @@
 // The fields of a key, which may be shown, their ranges, and the refusals that load and record writing share.
 ghost use Rattle.std.specs.Prelude.{◌≡◌, true, ◌&&◌, leb};
-ghost use Rattle.fields.specs.Fields.{between, isSlotNumber, isAlgorithm, outOfService, isUse, rightsRefusal, allInRange, storedOf};
+ghost use Rattle.fields.specs.Fields.{between, is_slot_number, is_algorithm, out_of_service, is_use, rights_refusal, all_in_range, stored_of};
 
 use refusals::refuse;
 
@@ -36,26 +36,26 @@ fn lies_between(low: u64, n: u64, high: u64) -> bool
 }
 
 pub fn is_slot_number(n: u64) -> bool
-    ensures { result ≡ isSlotNumber n }
+    ensures { result ≡ is_slot_number n }
 {
     lies_between(1, n, 32)
 }
 
 pub fn is_algorithm(a: u64) -> bool
-    ensures { result ≡ isAlgorithm a }
+    ensures { result ≡ is_algorithm a }
 {
     lies_between(5, a, 7)
 }
 
 // TEA6 is loaded no more, and sends no more. A slot may hold it.
 pub fn is_out_of_service(a: u64) -> bool
-    ensures { result ≡ outOfService a }
+    ensures { result ≡ out_of_service a }
 {
     a == 6
 }
 
 pub fn is_use(u: u64) -> bool
-    ensures { result ≡ isUse u }
+    ensures { result ≡ is_use u }
 {
     lies_between(1, u, 3)
 }
@@ -68,7 +68,7 @@ fn both_at_most(a: u64, most_a: u64, b: u64, most_b: u64) -> bool
 
 // Refusals 10, 11 and 20, in this order.
 pub fn rights_refusal(a: Asked) -> u8
-    ensures { result ≡ rightsRefusal a }
+    ensures { result ≡ rights_refusal a }
 {
     refuse(
         !is_use(a.usage),
@@ -87,8 +87,8 @@ pub fn rights_refusal(a: Asked) -> u8
 
 // The fields in a slot's own widths.
 pub fn stored(a: Asked) -> Fields
-    requires { allInRange a ≡ true }
-    ensures { result ≡ storedOf a }
+    requires { all_in_range a ≡ true }
+    ensures { result ≡ stored_of a }
 {
     Fields {
         version: a.version,

@@ -14,7 +14,7 @@ use Rattle.fields.proofs.Ranges.{between-low, between-high}
 use Rattle.writing.specs.Text.{lf, digits}
 use Rattle.writing.proofs.Digits.{digits-one, digits-ten, digits_more}
 use Rattle.forms.specs.Form.{Form, done, next}
-use Rattle.forms.specs.Decimals.{mayBegin, mayFollow, afterWithin, after, decimal}
+use Rattle.forms.specs.Decimals.{may_begin, may_follow, after_within, after, decimal}
 use Rattle.forms.proofs.Forms.{Spells, Live, Means}
 
 pub or_right : (t : Bool) → t || true ≡ true
@@ -30,67 +30,67 @@ or-false false e = e
 pub between_is : (low n high : ℕ) → low ≤ n → n ≤ high → between low n high ≡ true
 between_is low n high l h = rw (le-leb low n l) (le-leb n high h)
 
-pub begin-is : (low high b : ℕ) → mayBegin low high b ≡ true → (48 ≤ b) × (b ≤ 57) × (low ≤ b - 48) × (b - 48 ≤ high)
-unfolding mayBegin
+pub begin-is : (low high b : ℕ) → may_begin low high b ≡ true → (48 ≤ b) × (b ≤ 57) × (low ≤ b - 48) × (b - 48 ≤ high)
+unfolding may_begin
 begin-is low high b e =
     let d = and_left (between 48 b 57) _ e in
     let r = and_right (between 48 b 57) _ e in
     (between-low 48 b 57 d, between-high 48 b 57 d, between-low low (b - 48) high r, between-high low (b - 48) high r)
 
-begin-yes : (low high n : ℕ) → n < 10 → low ≤ n → n ≤ high → mayBegin low high (48 + n) ≡ true
-unfolding mayBegin
+begin-yes : (low high n : ℕ) → n < 10 → low ≤ n → n ≤ high → may_begin low high (48 + n) ≡ true
+unfolding may_begin
 begin-yes low high n h l m =
     rw (between_is 48 (48 + n) 57 (omega arith) (omega arith)) (between_is low (48 + n - 48) high (omega arith) (omega arith))
 
-pub follow-is : (high n b : ℕ) → mayFollow high n b ≡ true → (48 ≤ b) × (b ≤ 57) × (0 < n) × (n * 10 + (b - 48) ≤ high)
-unfolding mayFollow
+pub follow-is : (high n b : ℕ) → may_follow high n b ≡ true → (48 ≤ b) × (b ≤ 57) × (0 < n) × (n * 10 + (b - 48) ≤ high)
+unfolding may_follow
 follow-is high n b e =
     let d = and_left (between 48 b 57) _ e in
     let r = and_right (between 48 b 57) _ e in
     (between-low 48 b 57 d, between-high 48 b 57 d, ltb-true 0 n (and_left (ltb 0 n) _ r), leb-true _ high (and_right (ltb 0 n) _ r))
 
-pub follow-yes : (high n d : ℕ) → d < 10 → 0 < n → n * 10 + d ≤ high → mayFollow high n (48 + d) ≡ true
-unfolding mayFollow
+pub follow-yes : (high n d : ℕ) → d < 10 → 0 < n → n * 10 + d ≤ high → may_follow high n (48 + d) ≡ true
+unfolding may_follow
 follow-yes high n d h g l =
     rw (between_is 48 (48 + d) 57 (omega arith) (omega arith), lt-ltb 0 n g) (le-leb (n * 10 + (48 + d - 48)) high (omega arith))
 
 -- reading on after digits: any two bounds that suffice give the same form
 
 -- no digit follows the largest number
-none-follows : (k high n : ℕ) → high ≤ n → afterWithin zero high n ≡ afterWithin (suc k) high n
-unfolding afterWithin
-none-follows k high n h = λ i. next (λ b. eqb b lf || mayFollow high n b) (λ b. last b (mayFollow high n b) refl i)
+none-follows : (k high n : ℕ) → high ≤ n → after_within zero high n ≡ after_within (suc k) high n
+unfolding after_within
+none-follows k high n h = λ i. next (λ b. eqb b lf || may_follow high n b) (λ b. last b (may_follow high n b) refl i)
   where
-    last : (b : ℕ) (t : Bool) → mayFollow high n b ≡ t → done n ≡ pick t (afterWithin k high (n * 10 + (b - 48))) (done n)
+    last : (b : ℕ) (t : Bool) → may_follow high n b ≡ t → done n ≡ pick t (after_within k high (n * 10 + (b - 48))) (done n)
     last b true e = let f = follow-is high n b e in absurd (omega arith)
     last b false e = refl
 
-same : (k j high n : ℕ) → high ≤ n + k → high ≤ n + j → afterWithin k high n ≡ afterWithin j high n
-unfolding afterWithin
+same : (k j high n : ℕ) → high ≤ n + k → high ≤ n + j → after_within k high n ≡ after_within j high n
+unfolding after_within
 same zero zero high n h g = refl
 same zero (suc j) high n h g = none-follows j high n (omega arith)
 same (suc k) zero high n h g = sym (none-follows k high n (omega arith))
 same (suc k) (suc j) high n h g =
-    λ i. next (λ b. eqb b lf || mayFollow high n b) (λ b. more b (mayFollow high n b) refl (same k j high (n * 10 + (b - 48))) i)
+    λ i. next (λ b. eqb b lf || may_follow high n b) (λ b. more b (may_follow high n b) refl (same k j high (n * 10 + (b - 48))) i)
   where
-    more : (b : ℕ) (t : Bool) → mayFollow high n b ≡ t
+    more : (b : ℕ) (t : Bool) → may_follow high n b ≡ t
         → (high ≤ n * 10 + (b - 48) + k → high ≤ n * 10 + (b - 48) + j
-        → afterWithin k high (n * 10 + (b - 48)) ≡ afterWithin j high (n * 10 + (b - 48)))
-        → pick t (afterWithin k high (n * 10 + (b - 48))) (done n) ≡ pick t (afterWithin j high (n * 10 + (b - 48))) (done n)
+        → after_within k high (n * 10 + (b - 48)) ≡ after_within j high (n * 10 + (b - 48)))
+        → pick t (after_within k high (n * 10 + (b - 48))) (done n) ≡ pick t (after_within j high (n * 10 + (b - 48))) (done n)
     more b true e rec = let f = follow-is high n b e in rec (omega arith) (omega arith)
     more b false e rec = refl
 
 -- so a bound is not needed: another digit, or LF
 pub after_is : (high n : ℕ)
     → after high n
-    ≡ next (λ b. eqb b lf || mayFollow high n b) (λ b. pick (mayFollow high n b) (after high (n * 10 + (b - 48))) (done n))
-unfolding after afterWithin
+    ≡ next (λ b. eqb b lf || may_follow high n b) (λ b. pick (may_follow high n b) (after high (n * 10 + (b - 48))) (done n))
+unfolding after after_within
 after_is high n =
     same (high - n) (suc high) high n (omega arith) (omega arith)
     ∙ (λ i.
-    next (λ b. eqb b lf || mayFollow high n b)
+    next (λ b. eqb b lf || may_follow high n b)
     (λ b.
-    pick (mayFollow high n b)
+    pick (may_follow high n b)
     (same high (high - (n * 10 + (b - 48))) high (n * 10 + (b - 48)) (omega arith) (omega arith) i)
     (done n)))
 
@@ -125,13 +125,13 @@ module _ (low high : ℕ) where
   record Rest (n v : ℕ) (w : List ℕ) : Type 0 where
     least : low ≤ v
     most : v ≤ high
-    digitsOf : digits n ++ w ≡ digits v ++ (lf ∷ [])
+    digits_of : digits n ++ w ≡ digits v ++ (lf ∷ [])
 
   rest : (w : List ℕ) (n v : ℕ) → Spells (after high n) v w → low ≤ n → n ≤ high → Rest n v w
   rest [] n v h l m = absurd (subst (λ (f : Form ℕ). Spells f v []) (after_is high n) h)
-  rest (b ∷ w) n v h l m = go (mayFollow high n b) refl (subst (λ (f : Form ℕ). Spells f v (b ∷ w)) (after_is high n) h) (rest w (n * 10 + (b - 48)) v)
+  rest (b ∷ w) n v h l m = go (may_follow high n b) refl (subst (λ (f : Form ℕ). Spells f v (b ∷ w)) (after_is high n) h) (rest w (n * 10 + (b - 48)) v)
     where
-      go : (t : Bool) → mayFollow high n b ≡ t → (eqb b lf || t ≡ true) × Spells (pick t (after high (n * 10 + (b - 48))) (done n)) v w
+      go : (t : Bool) → may_follow high n b ≡ t → (eqb b lf || t ≡ true) × Spells (pick t (after high (n * 10 + (b - 48))) (done n)) v w
           → (Spells (after high (n * 10 + (b - 48))) v w → low ≤ n * 10 + (b - 48) → n * 10 + (b - 48) ≤ high → Rest (n * 10 + (b - 48)) v w)
           → Rest n v (b ∷ w)
       go true e k rec =
@@ -143,7 +143,7 @@ module _ (low high : ℕ) where
           record {
             least = r.least;
             most = r.most;
-            digitsOf = sym (append_assoc (digits n) (b ∷ []) w) ∙ ap (λ (t : List ℕ). t ++ w) (sym d) ∙ r.digitsOf;
+            digits_of = sym (append_assoc (digits n) (b ∷ []) w) ∙ ap (λ (t : List ℕ). t ++ w) (sym d) ∙ r.digits_of;
           }
       go false e k rec = ended w k.0 k.1
         where
@@ -151,21 +151,21 @@ module _ (low high : ℕ) where
           ended (c ∷ w) x y = absurd y
           ended [] x y =
               let z : b ≡ lf = eqb-true b lf (or-false (eqb b lf) x) in
-              record { least = omega arith; most = omega arith; digitsOf = λ i. digits (y i) ++ (z i ∷ []) }
+              record { least = omega arith; most = omega arith; digits_of = λ i. digits (y i) ++ (z i ∷ []) }
 
-  after-live : (k n : ℕ) → Live (afterWithin k high n)
-  unfolding afterWithin
+  after-live : (k n : ℕ) → Live (after_within k high n)
+  unfolding after_within
   after-live zero n = (lf, refl, λ b e. tt)
-  after-live (suc k) n = (lf, refl, λ b e. go b (mayFollow high n b) (after-live k (n * 10 + (b - 48))))
+  after-live (suc k) n = (lf, refl, λ b e. go b (may_follow high n b) (after-live k (n * 10 + (b - 48))))
     where
-      go : (b : ℕ) (t : Bool) → Live (afterWithin k high (n * 10 + (b - 48))) → Live (pick t (afterWithin k high (n * 10 + (b - 48))) (done n))
+      go : (b : ℕ) (t : Bool) → Live (after_within k high (n * 10 + (b - 48))) → Live (pick t (after_within k high (n * 10 + (b - 48))) (done n))
       go b true l = l
       go b false l = tt
 
 -- from low to high, where low is at most 1 or high is one digit
 pub decimal-means : (low high : ℕ) → low ≤ high → (10 ≤ high → low ≤ 1)
     → Means (decimal low high) (λ v. (low ≤ v) × (v ≤ high)) (λ v. digits v ++ (lf ∷ []))
-unfolding decimal after mayFollow
+unfolding decimal after may_follow
 decimal-means low high h c =
     record {
       spells = λ v g.
@@ -184,4 +184,4 @@ decimal-means low high h c =
         let f = begin-is low high b k.0 in
         let r = rest low high w (b - 48) v k.1 f.2 f.3 in
         let c : 48 + (b - 48) ≡ b = omega arith in
-        ((r.least, r.most), ap (λ (x : ℕ). x ∷ w) (sym c) ∙ ap (λ (t : List ℕ). t ++ w) (sym (digits-one (b - 48) (omega arith))) ∙ r.digitsOf)
+        ((r.least, r.most), ap (λ (x : ℕ). x ∷ w) (sym c) ∙ ap (λ (t : List ℕ). t ++ w) (sym (digits-one (b - 48) (omega arith))) ∙ r.digits_of)

@@ -14,7 +14,7 @@ use Rattle.laws.specs.Choice.{pick}
 use Rattle.laws.proofs.Cases.{lt-or-le, and_left, and_right}
 use Prim.Native.String.{String}
 use Rattle.writing.specs.Text.{ascii}
-use Rattle.forms.specs.Form.{Form, done, next, Outcome, found, wrong, stands, readAt, literal, line, ◌>>=◌}
+use Rattle.forms.specs.Form.{Form, done, next, Outcome, found, wrong, stands, read_at, literal, line, ◌>>=◌}
 
 -- the form f spells the value v as the bytes w
 abbrev pub Spells : {A : Type 0} → Form A → A → List ℕ → Type 0
@@ -50,8 +50,8 @@ ahead s p b t e = ⊎_elim near far (lt-or-le p (length s))
 -- what a form spells is read
 
 pub reads : {A : Type 0} (f : Form A) (s : List ℕ) (p : ℕ) (v : A) (w r : List ℕ) → Spells f v w → drop p s ≡ w ++ r
-    → readAt f s p ≡ found v (p + length w)
-unfolding readAt
+    → read_at f s p ≡ found v (p + length w)
+unfolding read_at
 reads (done x) s p v [] r h d = let z : p ≡ p + 0 = omega arith in λ i. found (h i) (z i)
 reads (done x) s p v (b ∷ w) r h d = absurd h
 reads (next may then) s p v [] r h d = absurd h
@@ -59,7 +59,7 @@ reads (next may then) s p v (b ∷ w) r h d =
     let a = ahead s p b (w ++ r) d in
     let z : suc p + length w ≡ p + suc (length w) = omega arith in
     rw (stands-yes may s p a.within (ap may a.byte ∙ h.0))
-    (ap (λ (c : ℕ). readAt (then c) s (suc p)) a.byte ∙ reads (then b) s (suc p) v w r h.1 a.rest ∙ ap (found v) z)
+    (ap (λ (c : ℕ). read_at (then c) s (suc p)) a.byte ∙ reads (then b) s (suc p) v w r h.1 a.rest ∙ ap (found v) z)
 
 -- what is read is spelt by the form
 
@@ -69,16 +69,16 @@ pub record Spelt {A : Type 0} (f : Form A) (s : List ℕ) (p : ℕ) (v : A) (q :
   pub splits : drop p s ≡ text ++ drop q s
   pub after : q ≡ p + length text
 
-pub spelt : {A : Type 0} (f : Form A) (s : List ℕ) (p : ℕ) (v : A) (q : ℕ) → readAt f s p ≡ found v q → Spelt f s p v q
-unfolding readAt
+pub spelt : {A : Type 0} (f : Form A) (s : List ℕ) (p : ℕ) (v : A) (q : ℕ) → read_at f s p ≡ found v q → Spelt f s p v q
+unfolding read_at
 spelt (done x) s p v q e =
     let a : x ≡ v = cc in
     let b : p ≡ q = cc in
     record { text = []; spells = a; splits = ap (λ (n : ℕ). drop n s) b; after = omega arith }
 spelt {A} (next may then) s p v q e = go (stands may s p) refl e (spelt (then (get_or s p 0)) s (suc p) v q)
   where
-    go : (t : Bool) → stands may s p ≡ t → pick t (readAt (then (get_or s p 0)) s (suc p)) (wrong p) ≡ found v q
-        → (readAt (then (get_or s p 0)) s (suc p) ≡ found v q → Spelt (then (get_or s p 0)) s (suc p) v q) → Spelt (next may then) s p v q
+    go : (t : Bool) → stands may s p ≡ t → pick t (read_at (then (get_or s p 0)) s (suc p)) (wrong p) ≡ found v q
+        → (read_at (then (get_or s p 0)) s (suc p) ≡ found v q → Spelt (then (get_or s p 0)) s (suc p) v q) → Spelt (next may then) s p v q
     go false h e rec = let z : ◌≡◌ {A = ℕ} 0 1 = cc in absurd (omega arith)
     go true h e rec =
         let a = stands-is may s p h in
@@ -118,13 +118,13 @@ pub record Stop {A : Type 0} (f : Form A) (s : List ℕ) (p q : ℕ) : Type 0 wh
   pub spells : Spells f value (front ++ more)
   pub stuck : (b : ℕ) (r : List ℕ) → drop q s ≡ b ∷ r → (v : A) (u : List ℕ) → Spells f v (front ++ b ∷ u) → ⊥
 
-pub stops : {A : Type 0} (f : Form A) → Live f → (s : List ℕ) (p q : ℕ) → readAt f s p ≡ wrong q → Stop f s p q
-unfolding readAt
+pub stops : {A : Type 0} (f : Form A) → Live f → (s : List ℕ) (p q : ℕ) → read_at f s p ≡ wrong q → Stop f s p q
+unfolding read_at
 stops (done x) l s p q e = let z : ◌≡◌ {A = ℕ} 0 1 = cc in absurd (omega arith)
 stops {A} (next may then) l s p q e = go (stands may s p) refl e (λ a. stops (then (get_or s p 0)) (l.2 (get_or s p 0) a) s (suc p) q)
   where
-    go : (t : Bool) → stands may s p ≡ t → pick t (readAt (then (get_or s p 0)) s (suc p)) (wrong p) ≡ wrong q
-        → (may (get_or s p 0) ≡ true → readAt (then (get_or s p 0)) s (suc p) ≡ wrong q → Stop (then (get_or s p 0)) s (suc p) q)
+    go : (t : Bool) → stands may s p ≡ t → pick t (read_at (then (get_or s p 0)) s (suc p)) (wrong p) ≡ wrong q
+        → (may (get_or s p 0) ≡ true → read_at (then (get_or s p 0)) s (suc p) ≡ wrong q → Stop (then (get_or s p 0)) s (suc p) q)
         → Stop (next may then) s p q
     go true h e rec =
         let a = stands-is may s p h in
@@ -167,13 +167,13 @@ abbrev pub onto : {A B : Type 0} → Outcome A → (A → ℕ → Outcome B) →
 onto (found v q) k = k v q
 onto (wrong q) k = wrong q
 
-pub both_read : {A B : Type 0} (f : Form A) (g : A → Form B) (s : List ℕ) (p : ℕ) → readAt (f >>= g) s p ≡ onto (readAt f s p) (λ v q. readAt (g v) s q)
-unfolding readAt ◌>>=◌
+pub both_read : {A B : Type 0} (f : Form A) (g : A → Form B) (s : List ℕ) (p : ℕ) → read_at (f >>= g) s p ≡ onto (read_at f s p) (λ v q. read_at (g v) s q)
+unfolding read_at ◌>>=◌
 both_read (done v) g s p = refl
 both_read {A} {B} (next may then) g s p = go (stands may s p) (both_read (then (get_or s p 0)) g s (suc p))
   where
-    go : (t : Bool) → readAt (then (get_or s p 0) >>= g) s (suc p) ≡ onto (readAt (then (get_or s p 0)) s (suc p)) (λ v q. readAt (g v) s q)
-        → pick t (readAt (then (get_or s p 0) >>= g) s (suc p)) (wrong p) ≡ onto (pick t (readAt (then (get_or s p 0)) s (suc p)) (wrong p)) (λ v q. readAt (g v) s q)
+    go : (t : Bool) → read_at (then (get_or s p 0) >>= g) s (suc p) ≡ onto (read_at (then (get_or s p 0)) s (suc p)) (λ v q. read_at (g v) s q)
+        → pick t (read_at (then (get_or s p 0) >>= g) s (suc p)) (wrong p) ≡ onto (pick t (read_at (then (get_or s p 0)) s (suc p)) (wrong p)) (λ v q. read_at (g v) s q)
     go true h = h
     go false h = refl
 

@@ -1,4 +1,4 @@
--- The laws of words: `useForm` spells the uses 1, 2, 3 by their words, and `algorithmForm` the algorithms 5, 6, 7 by their names.
+-- The laws of words: `use_form` spells the uses 1, 2, 3 by their words, and `algorithm_form` the algorithms 5, 6, 7 by their names.
 -- Assumes nothing.
 use mathlib.Core.Path.{◌≡◌, sym, ap, subst, ◌∙◌}
 use mathlib.Core.Logic.{◌⊎◌, inl, inr, ⊎_elim}

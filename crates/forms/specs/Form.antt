@@ -20,9 +20,9 @@ abbrev pub stands : (ℕ → Bool) → List ℕ → ℕ → Bool
 stands may s p = ltb p (length s) && may (get_or s p 0)
 
 -- the text s, read from the place p
-unfoldable pub readAt : {A : Type 0} → Form A → List ℕ → ℕ → Outcome A
-readAt (done v) s p = found v p
-readAt (next may then) s p = pick (stands may s p) (readAt (then (get_or s p 0)) s (suc p)) (wrong p)
+unfoldable pub read_at : {A : Type 0} → Form A → List ℕ → ℕ → Outcome A
+read_at (done v) s p = found v p
+read_at (next may then) s p = pick (stands may s p) (read_at (then (get_or s p 0)) s (suc p)) (wrong p)
 
 -- one form, and then another that may depend on its value
 unfoldable pub ◌>>=◌ : {A B : Type 0} → Form A → (A → Form B) → Form B

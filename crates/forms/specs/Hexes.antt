@@ -5,23 +5,23 @@ use Rattle.fields.specs.Fields.{between}
 use Rattle.forms.specs.Form.{Form, done, next, ◌>>=◌}
 
 -- 0 to 9, a to f
-unfoldable pub isHex : ℕ → Bool
-isHex c = between 48 c 57 || between 97 c 102
+unfoldable pub is_hex : ℕ → Bool
+is_hex c = between 48 c 57 || between 97 c 102
 
-unfoldable pub hexValue : ℕ → ℕ
-hexValue c = pick (leb c 57) (c - 48) (c - 87)
+unfoldable pub hex_value : ℕ → ℕ
+hex_value c = pick (leb c 57) (c - 48) (c - 87)
 
 -- a digit's value, or 16
-unfoldable pub hexOr : ℕ → ℕ
-hexOr c = pick (isHex c) (hexValue c) 16
+unfoldable pub hex_or : ℕ → ℕ
+hex_or c = pick (is_hex c) (hex_value c) 16
 
-abbrev pub halfByte : Form ℕ
-halfByte = next isHex (λ c. done (hexValue c))
+abbrev pub half_byte : Form ℕ
+half_byte = next is_hex (λ c. done (hex_value c))
 
 unfoldable pub byte : Form ℕ
 byte = do
-  high ← halfByte
-  low ← halfByte
+  high ← half_byte
+  low ← half_byte
   done (high * 16 + low)
 
 -- n bytes

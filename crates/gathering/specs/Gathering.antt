@@ -3,43 +3,43 @@ use Rattle.std.specs.Prelude.{true, false, ◌&&◌, not, List, ℕ, zero, suc, 
 use Rattle.laws.specs.Choice.{pick}
 use Rattle.refusals.specs.Numbers.{done}
 use Rattle.slots.specs.declared.Slot.{Slot}
-use Rattle.slots.specs.Slots.{isFilled, emptyTable, withSlot}
-use Rattle.slot_calls.specs.Seen.{slotAs}
+use Rattle.slots.specs.Slots.{is_filled, empty_table, with_slot}
+use Rattle.slot_calls.specs.Seen.{slot_as}
 use Rattle.record_reader.specs.declared.RecordRead.{RecordRead}
-use Rattle.record_reader.specs.Record.{recordRead}
+use Rattle.record_reader.specs.Record.{record_read}
 use Rattle.gathering.specs.declared.Gathered.{Gathered}
 
 -- each record stands in the slot of its number
-abbrev pub gatheredTo : List Slot → Gathered
-gatheredTo table = record { good = true; table = table }
+abbrev pub gathered_to : List Slot → Gathered
+gathered_to table = record { good = true; table = table }
 
 -- a record does not read, or repeats a number
-abbrev pub notGathered : Gathered
-notGathered = record { good = false; table = emptyTable }
+abbrev pub not_gathered : Gathered
+not_gathered = record { good = false; table = empty_table }
 
-abbrev pub slotRead : RecordRead → Slot
-slotRead read = record { fields = read.fields; key = read.key }
+abbrev pub slot_read : RecordRead → Slot
+slot_read read = record { fields = read.fields; key = read.key }
 
 -- one record more
 unfoldable pub entered : List Slot → RecordRead → Gathered
 entered table read =
-    pick (eqb read.refusal done && not (isFilled (slotAs table read.number)))
-    (gatheredTo (withSlot table read.number (slotRead read)))
-    notGathered
+    pick (eqb read.refusal done && not (is_filled (slot_as table read.number)))
+    (gathered_to (with_slot table read.number (slot_read read)))
+    not_gathered
 
 -- The records of s, one after the other, until the bytes end. The first argument only bounds how many there are.
-unfoldable pub gatherWithin : ℕ → List Slot → List ℕ → Gathered
-gatherWithin zero table s = gatheredTo table
-gatherWithin (suc k) table s =
-    let read = recordRead s in
+unfoldable pub gather_within : ℕ → List Slot → List ℕ → Gathered
+gather_within zero table s = gathered_to table
+gather_within (suc k) table s =
+    let read = record_read s in
     let next = entered table read in
-    pick (eqb (length s) 0) (gatheredTo table)
-    (pick next.good (gatherWithin k next.table (drop read.used s))
-    notGathered)
+    pick (eqb (length s) 0) (gathered_to table)
+    (pick next.good (gather_within k next.table (drop read.used s))
+    not_gathered)
 
-unfoldable pub gatherOn : List Slot → List ℕ → Gathered
-gatherOn table s = gatherWithin (length s) table s
+unfoldable pub gather_on : List Slot → List ℕ → Gathered
+gather_on table s = gather_within (length s) table s
 
 -- a whole text
 unfoldable pub gathered : List ℕ → Gathered
-gathered text = gatherOn emptyTable text
+gathered text = gather_on empty_table text

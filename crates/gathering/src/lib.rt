@@ -1,8 +1,8 @@
 // A text of records, gathered by number and not loaded: a record of any algorithm is taken (document 02, [11]).
 ghost use Rattle.std.specs.Prelude.{◌≡◌, true};
-ghost use Rattle.gathering.specs.Gathering.{gatheredTo, notGathered, entered, gathered};
+ghost use Rattle.gathering.specs.Gathering.{gathered_to, not_gathered, entered, gathered};
 ghost use Rattle.refusals.specs.Numbers.{done};
-ghost use Rattle.fields.specs.Fields.{isSlotNumber};
+ghost use Rattle.fields.specs.Fields.{is_slot_number};
 
 use record_reader::{RecordRead, read_record};
 use slots::{Slot, empty_table, is_filled, with_slot};
@@ -16,13 +16,13 @@ pub struct Gathered {
 }
 
 fn gathered_to(table: [Slot; 32]) -> Gathered
-    ensures { result ≡ gatheredTo table }
+    ensures { result ≡ gathered_to table }
 {
     Gathered { good: true, table }
 }
 
 fn not_gathered() -> Gathered
-    ensures { result ≡ notGathered }
+    ensures { result ≡ not_gathered }
 {
     Gathered {
         good: false,
@@ -32,7 +32,7 @@ fn not_gathered() -> Gathered
 
 // One record more.
 fn enter(table: [Slot; 32], read: RecordRead) -> Gathered
-    requires { read.refusal ≡ done → isSlotNumber read.number ≡ true }
+    requires { read.refusal ≡ done → is_slot_number read.number ≡ true }
     ensures { result ≡ entered table read }
 {
     if read.refusal != refusals::DONE {

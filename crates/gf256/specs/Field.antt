@@ -6,26 +6,26 @@ use Rattle.laws.specs.Choice.{pick}
 use Rattle.laws.specs.Lists.{tabulate}
 
 -- z times b: a shift, less the polynomial (0x11b) where a bit goes out
-abbrev pub timesZ : ℕ → ℕ
-timesZ b = pick (ltb b 128) (b * 2) (bit_xor (b * 2) 0x11b)
+abbrev pub times_z : ℕ → ℕ
+times_z b = pick (ltb b 128) (b * 2) (bit_xor (b * 2) 0x11b)
 
 -- the sum of b, z b, z^2 b, .. over the digits 1 of a, the lowest digit first; n digits
-abbrev pub sumOver : ℕ → ℕ → ℕ → ℕ
-sumOver zero a b = 0
-sumOver (suc n) a b = bit_xor (pick (eqb (a % 2) 1) b 0) (sumOver n (a / 2) (timesZ b))
+abbrev pub sum_over : ℕ → ℕ → ℕ → ℕ
+sum_over zero a b = 0
+sum_over (suc n) a b = bit_xor (pick (eqb (a % 2) 1) b 0) (sum_over n (a / 2) (times_z b))
 
 -- a times b
 unfoldable pub times : ℕ → ℕ → ℕ
-times a b = sumOver 8 a b
+times a b = sum_over 8 a b
 
 -- r times x^2, x^4, ..: n of them
-abbrev pub timesSquares : ℕ → ℕ → ℕ → ℕ
-timesSquares zero x r = r
-timesSquares (suc n) x r = timesSquares n (sumOver 8 x x) (sumOver 8 r (sumOver 8 x x))
+abbrev pub times_squares : ℕ → ℕ → ℕ → ℕ
+times_squares zero x r = r
+times_squares (suc n) x r = times_squares n (sum_over 8 x x) (sum_over 8 r (sum_over 8 x x))
 
 -- the inverse of x, and 0 for 0: x to the power 254 = 2 + 4 + .. + 128
 unfoldable pub inverse : ℕ → ℕ
-inverse x = timesSquares 7 x 1
+inverse x = times_squares 7 x 1
 
 -- the eight digits turned left by one place
 abbrev pub turned : ℕ → ℕ
@@ -40,9 +40,9 @@ affine b =
     bit_xor b (bit_xor b1 (bit_xor b2 (bit_xor b3 (bit_xor (turned b3) 0x63))))
 
 -- the S-box (the Rijndael proposal, 4.2.1)
-unfoldable pub sBox : ℕ → ℕ
-sBox x = affine (inverse x)
+unfoldable pub s_box : ℕ → ℕ
+s_box x = affine (inverse x)
 
 -- the S-box as a table
-unfoldable pub sBoxes : List ℕ
-sBoxes = tabulate sBox 0 256
+unfoldable pub s_boxes : List ℕ
+s_boxes = tabulate s_box 0 256

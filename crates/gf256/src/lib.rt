@@ -1,7 +1,7 @@
 // Bytes as elements of GF(2^8): M, the table of the S-box, to be lent, and doubling.
 
 ghost use Rattle.std.specs.Prelude.{◌≡◌};
-ghost use Rattle.gf256.specs.Field.{times, sBox, sBoxes};
+ghost use Rattle.gf256.specs.Field.{times, s_box, s_boxes};
 
 // The Rijndael proposal, 4.2.1: the inverse, and then the affine map.
 const S_BOX: [u8; 256] = *b"\
@@ -24,7 +24,7 @@ const S_BOX: [u8; 256] = *b"\
 
 // The S-box. A public call takes it once and lends it: a function that names a constant copies it.
 pub fn s_box_table() -> [u8; 256]
-    ensures { result ≡ sBoxes }
+    ensures { result ≡ s_boxes }
 {
     S_BOX
 }
@@ -43,8 +43,8 @@ pub fn times_d7(b: u8) -> u8
 
 // b through the lent S-box.
 pub fn substituted(table: &[u8; 256], b: u8) -> u8
-    requires { table.now ≡ sBoxes }
-    ensures { result ≡ sBox b }
+    requires { table.now ≡ s_boxes }
+    ensures { result ≡ s_box b }
 {
     table[b as usize]
 }

@@ -1,13 +1,13 @@
 // Bytes of a text by two lower-case hex digits each.
 ghost use Rattle.std.specs.Prelude.{◌≡◌};
-ghost use Rattle.forms.specs.Hexes.{hexOr, halfByte, byte};
+ghost use Rattle.forms.specs.Hexes.{hex_or, half_byte, byte};
 ghost use Rattle.reading.specs.Reading.{onward, answer};
 
 use reading::{Reading, good_to, wrong_at};
 
 // The value of a lower-case hex digit, or 16.
 pub fn hex_value(c: u8) -> u64
-    ensures { result ≡ hexOr c }
+    ensures { result ≡ hex_or c }
 {
     if c < 48 {
         return 16;
@@ -26,7 +26,7 @@ pub fn hex_value(c: u8) -> u64
 
 // One hex digit.
 fn read_half(s: &[u8], before: Reading) -> Reading
-    ensures { result ≡ answer (onward before halfByte s.now) }
+    ensures { result ≡ answer (onward before half_byte s.now) }
 {
     let at = before.place;
     if !before.good {

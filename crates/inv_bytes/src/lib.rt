@@ -2,7 +2,7 @@
 ghost use Rattle.std.specs.Prelude.{◌≡◌, ◌%◌, ◌<◌, eqb};
 ghost use Rattle.laws.specs.Choice.{pick};
 ghost use Rattle.gf256.specs.Field.{times};
-ghost use Rattle.inv_bytes.specs.Bytes.{invSBox, invSBoxes, invMixedByte};
+ghost use Rattle.inv_bytes.specs.Bytes.{inv_s_box, inv_s_boxes, inv_mixed_byte};
 
 use gf256::twice;
 
@@ -27,15 +27,15 @@ const INV_S_BOX: [u8; 256] = *b"\
 
 // The inverse S-box, to be taken once and lent: a function that names a constant copies it.
 pub fn inv_s_box_table() -> [u8; 256]
-    ensures { result ≡ invSBoxes }
+    ensures { result ≡ inv_s_boxes }
 {
     INV_S_BOX
 }
 
 // b through the lent inverse S-box.
 pub fn inv_substituted(table: &[u8; 256], b: u8) -> u8
-    requires { table.now ≡ invSBoxes }
-    ensures { result ≡ invSBox b }
+    requires { table.now ≡ inv_s_boxes }
+    ensures { result ≡ inv_s_box b }
 {
     table[b as usize]
 }
@@ -60,7 +60,7 @@ fn product(k: u8, b: u8) -> u8
 
 // One byte of a column that was mixed.
 pub fn inv_mixed_byte(a: u8, b: u8, c: u8, d: u8) -> u8
-    ensures { result ≡ invMixedByte a b c d }
+    ensures { result ≡ inv_mixed_byte a b c d }
 {
     product(14, a) ^ product(11, b) ^ product(13, c) ^ product(9, d)
 }

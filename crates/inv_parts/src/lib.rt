@@ -1,15 +1,15 @@
 // Rows turned back, and the round keys of a schedule mixed back.
 ghost use Rattle.std.specs.Prelude.{◌≡◌, length, get_or};
 ghost use Rattle.laws.specs.Lists.{tabulate};
-ghost use Rattle.inv_parts.specs.Steps.{invShiftRow};
-ghost use Rattle.inv_parts.specs.Schedule.{invMixedWord, mixedBack};
+ghost use Rattle.inv_parts.specs.Steps.{inv_shift_row};
+ghost use Rattle.inv_parts.specs.Schedule.{inv_mixed_word, mixed_back};
 
 use inv_bytes::inv_mixed_byte;
 use words::{byte0, byte1, byte2, byte3, join_bytes};
 
 // Rows 1, 2, 3 turn right by 1, 3, 4.
 pub fn inv_shift_row(s: [[u8; 8]; 4]) -> [[u8; 8]; 4]
-    ensures { result ≡ invShiftRow s }
+    ensures { result ≡ inv_shift_row s }
 {
     let mut t = s;
     for c in 0..8 {
@@ -23,7 +23,7 @@ pub fn inv_shift_row(s: [[u8; 8]; 4]) -> [[u8; 8]; 4]
 
 // A word as a column, through the inverse column mixing.
 fn inv_mixed_word(x: u32) -> u32
-    ensures { result ≡ invMixedWord x }
+    ensures { result ≡ inv_mixed_word x }
 {
     let a = byte0(x);
     let b = byte1(x);
@@ -40,7 +40,7 @@ fn inv_mixed_word(x: u32) -> u32
 // Of a schedule of 120 words in a lent slice, round keys 1 to 13, each of eight words. The first and the last stay.
 pub fn mix_back(w: &mut [u32])
     requires { length w.old ≡ 120 }
-    ensures { w.new ≡ tabulate (λ i. mixedBack i (get_or w.old i 0)) 0 120 }
+    ensures { w.new ≡ tabulate (λ i. mixed_back i (get_or w.old i 0)) 0 120 }
 {
     for i in 8..112 {
         w[i] = inv_mixed_word(w[i]);

@@ -3,9 +3,9 @@ pub mod inv_schedule;
 mod steps;
 
 ghost use Rattle.std.specs.Prelude.{◌≡◌, ◌<◌, length};
-ghost use Rattle.rijndael.specs.Cipher.{toState, toBlock};
-ghost use Rattle.inv_bytes.specs.Bytes.{invSBoxes};
-ghost use Rattle.inverse.specs.Decipher.{invRoundOf, invFinalRound, decrypted, decipher};
+ghost use Rattle.rijndael.specs.Cipher.{to_state, to_block};
+ghost use Rattle.inv_bytes.specs.Bytes.{inv_s_boxes};
+ghost use Rattle.inverse.specs.Decipher.{inv_round_of, inv_final_round, decrypted, decipher};
 
 use inv_bytes::inv_s_box_table;
 use inv_parts::inv_shift_row;
@@ -14,21 +14,21 @@ use round_steps::add_round_key;
 use steps::{inv_byte_sub, inv_mix_column};
 
 fn inv_round(s: [[u8; 8]; 4], w: &[u32], n: usize, table: &[u8; 256]) -> [[u8; 8]; 4]
-    requires { (length w.now ≡ 120) × ((n < 15) × (table.now ≡ invSBoxes)) }
-    ensures { result ≡ invRoundOf w.now n s }
+    requires { (length w.now ≡ 120) × ((n < 15) × (table.now ≡ inv_s_boxes)) }
+    ensures { result ≡ inv_round_of w.now n s }
 {
     add_round_key(inv_mix_column(inv_shift_row(inv_byte_sub(s, table))), w, n)
 }
 
 fn inv_last_round(s: [[u8; 8]; 4], w: &[u32], n: usize, table: &[u8; 256]) -> [[u8; 8]; 4]
-    requires { (length w.now ≡ 120) × ((n < 15) × (table.now ≡ invSBoxes)) }
-    ensures { result ≡ invFinalRound w.now n s }
+    requires { (length w.now ≡ 120) × ((n < 15) × (table.now ≡ inv_s_boxes)) }
+    ensures { result ≡ inv_final_round w.now n s }
 {
     add_round_key(inv_shift_row(inv_byte_sub(s, table)), w, n)
 }
 
 fn decrypt(s: [[u8; 8]; 4], w: &[u32], table: &[u8; 256]) -> [[u8; 8]; 4]
-    requires { (length w.now ≡ 120) × (table.now ≡ invSBoxes) }
+    requires { (length w.now ≡ 120) × (table.now ≡ inv_s_boxes) }
     ensures { result ≡ decrypted w.now s }
 {
     let mut t = add_round_key(s, w, 14);
@@ -41,8 +41,8 @@ fn decrypt(s: [[u8; 8]; 4], w: &[u32], table: &[u8; 256]) -> [[u8; 8]; 4]
 
 // A block under the inverse's schedule.
 pub fn decrypt_block(b: [u8; 32], w: &[u32], table: &[u8; 256]) -> [u8; 32]
-    requires { (length w.now ≡ 120) × (table.now ≡ invSBoxes) }
-    ensures { result ≡ toBlock (decrypted w.now (toState b)) }
+    requires { (length w.now ≡ 120) × (table.now ≡ inv_s_boxes) }
+    ensures { result ≡ to_block (decrypted w.now (to_state b)) }
 {
     to_block(decrypt(to_state(b), w, table))
 }

@@ -1,13 +1,13 @@
 // The inverse steps that take each byte of a state, and each column.
 ghost use Rattle.std.specs.Prelude.{◌≡◌};
-ghost use Rattle.inv_bytes.specs.Bytes.{invSBoxes};
-ghost use Rattle.inv_parts.specs.Steps.{invByteSub, invMixColumn};
+ghost use Rattle.inv_bytes.specs.Bytes.{inv_s_boxes};
+ghost use Rattle.inv_parts.specs.Steps.{inv_byte_sub, inv_mix_column};
 
 use inv_bytes::{inv_mixed_byte, inv_substituted};
 
 pub fn inv_byte_sub(s: [[u8; 8]; 4], table: &[u8; 256]) -> [[u8; 8]; 4]
-    requires { table.now ≡ invSBoxes }
-    ensures { result ≡ invByteSub s }
+    requires { table.now ≡ inv_s_boxes }
+    ensures { result ≡ inv_byte_sub s }
 {
     let mut t = s;
     for r in 0..4 {
@@ -19,7 +19,7 @@ pub fn inv_byte_sub(s: [[u8; 8]; 4], table: &[u8; 256]) -> [[u8; 8]; 4]
 }
 
 pub fn inv_mix_column(s: [[u8; 8]; 4]) -> [[u8; 8]; 4]
-    ensures { result ≡ invMixColumn s }
+    ensures { result ≡ inv_mix_column s }
 {
     let mut t = s;
     for c in 0..8 {

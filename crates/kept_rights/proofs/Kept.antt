@@ -7,21 +7,21 @@ use mathlib.Core.List.{List, [], ◌∷◌, map}
 use mathlib.Core.Option.{Option, none, some}
 use Prim.Native.Nat.{ℕ}
 use lib.ListN.{length}
-use Rattle.fields.specs.Fields.{isSlotNumber}
+use Rattle.fields.specs.Fields.{is_slot_number}
 use Rattle.slots.specs.declared.Slot.{Slot}
-use Rattle.slots.specs.Slots.{isFilled, hasBad, slot_at}
+use Rattle.slots.specs.Slots.{is_filled, has_bad, slot_at}
 use Rattle.slots.proofs.Tables.{filled-not-empty}
 use Rattle.record_text.specs.Text.{Good}
 use Rattle.record_reader.specs.Record.{Entry}
 use Rattle.two_runs.specs.Calls.{Call, Origin, present}
-use Rattle.demand_3.specs.Ours.{ourCard}
+use Rattle.demand_3.specs.Ours.{our_card}
 use Rattle.two_runs.specs.Trace.{Trace}
-use Rattle.two_runs.specs.Run.{start_of, table_at, traceAt}
+use Rattle.two_runs.specs.Run.{start_of, table_at, trace_at}
 use Rattle.two_runs.specs.Demand.{given, Kept, Holds}
 use Rattle.sessions.proofs.Corollaries.{alone}
-use Rattle.conversions.specs.Conforms.{In, Apart, Known, Pair, AlikeEntries, Joins, Conforms, Converts, pairsOf}
+use Rattle.conversions.specs.Conforms.{In, Apart, Known, Pair, AlikeEntries, Joins, Conforms, Converts, pairs_of}
 use Rattle.conversions.proofs.Tables.{reads-good}
-use Rattle.kept_rights.specs.Left.{entry_of, entriesOf, entriesText, startNumber, pairsLeft, hasLoad, OfKind}
+use Rattle.kept_rights.specs.Left.{entry_of, entries_of, entries_text, start_number, pairs_left, has_load, OfKind}
 use Rattle.kept_rights.proofs.Records.{OfTable, of-table, records-once, entry-good, text-reads}
 use Rattle.kept_rights.proofs.Origins.{origins-owned, good-at-call}
 
@@ -55,10 +55,10 @@ module _ {A B : Type 0} (f : A → B) where
 -- the flat list, as pairs
 
 abbrev pair_of : Trace → Entry → Pair
-pair_of trace e = record { before = startNumber (trace e.number); after = e.number }
+pair_of trace e = record { before = start_number (trace e.number); after = e.number }
 
-pairs-are : (trace : Trace) (es : List Entry) → pairsOf (pairsLeft trace es) ≡ map (pair_of trace) es
-unfolding pairsLeft
+pairs-are : (trace : Trace) (es : List Entry) → pairs_of (pairs_left trace es) ≡ map (pair_of trace) es
+unfolding pairs_left
 pairs-are trace [] = refl
 pairs-are trace (e ∷ es) = ap (λ (l : List Pair). pair_of trace e ∷ l) (pairs-are trace es)
 
@@ -82,22 +82,22 @@ kept-kind {old} {new} k o =
     let key : new.key ≡ old.key = ap (λ (s : Slot). s.key) k.rest in
     record { version = rw version o.version; size = rw key o.size; bytes = λ i. rw key (o.bytes i) }
 
-module _ (start : List Slot) (size : length start ≡ 32) (sound : hasBad start ≡ false) (cs : List Call) (loadless : hasLoad cs ≡ false) (i : ℕ) where
+module _ (start : List Slot) (size : length start ≡ 32) (sound : has_bad start ≡ false) (cs : List Call) (loadless : has_load cs ≡ false) (i : ℕ) where
   abbrev left : List Slot
-  left = table_at ourCard start cs i
+  left = table_at our_card start cs i
 
   abbrev trace : Trace
-  trace = traceAt ourCard start cs i
+  trace = trace_at our_card start cs i
 
   -- what a filled slot was at the start
   record Was (n : ℕ) : Type 0 where
     number : ℕ
     traced : trace n ≡ some (present number)
-    numbered : isSlotNumber number ≡ true
-    filled : isFilled (slot_at start number) ≡ true
+    numbered : is_slot_number number ≡ true
+    filled : is_filled (slot_at start number) ≡ true
     kept : Kept (slot_at start number) (slot_at left n)
 
-  was : (n : ℕ) → isSlotNumber n ≡ true → isFilled (slot_at left n) ≡ true → Was n
+  was : (n : ℕ) → is_slot_number n ≡ true → is_filled (slot_at left n) ≡ true → Was n
   was n h f = go (trace n) refl ((alone start size sound cs).traces i n h)
     where
       go : (origin : Option Origin) → trace n ≡ origin → Holds start cs origin (slot_at left n) → Was n
@@ -116,17 +116,17 @@ module _ (start : List Slot) (size : length start ≡ 32) (sound : hasBad start 
   size-left = (good-at-call (start_of start) cs (record { size = size; sound = sound }) i).size
 
   -- no two of them were one
-  was-once : (m n : ℕ) → isSlotNumber m ≡ true → isSlotNumber n ≡ true → (x : Was m) (y : Was n) → x.number ≡ y.number → m ≡ n
+  was-once : (m n : ℕ) → is_slot_number m ≡ true → is_slot_number n ≡ true → (x : Was m) (y : Was n) → x.number ≡ y.number → m ≡ n
   was-once m n h l x y e = (origins-owned start cs loadless i).once m n h l x.traced (y.traced ∙ ap (λ (k : ℕ). some (present k)) (sym e))
 
   abbrev after : List Entry
-  after = entriesOf left
+  after = entries_of left
 
   abbrev pairs : List ℕ
-  pairs = pairsLeft trace after
+  pairs = pairs_left trace after
 
-  before_of : {n : ℕ} (w : Was n) → startNumber (trace n) ≡ w.number
-  before_of w = ap startNumber w.traced
+  before_of : {n : ℕ} (w : Was n) → start_number (trace n) ≡ w.number
+  before_of w = ap start_number w.traced
 
   -- a record left: its slot, and what that was
   record Came (e : Entry) : Type 0 where
@@ -137,7 +137,7 @@ module _ (start : List Slot) (size : length start ≡ 32) (sound : hasBad start 
   came e m = let t = of-table left size-left e m in record { slot = t; origin = was e.number t.numbered t.filled }
 
   -- two records from one slot of the start are one
-  from_one : (x y : Entry) → In x after → In y after → startNumber (trace x.number) ≡ startNumber (trace y.number) → x.number ≡ y.number
+  from_one : (x y : Entry) → In x after → In y after → start_number (trace x.number) ≡ start_number (trace y.number) → x.number ≡ y.number
   from_one x y m n e =
       let v = came x m in
       let w = came y n in
@@ -145,7 +145,7 @@ module _ (start : List Slot) (size : length start ≡ 32) (sound : hasBad start 
 
   -- of a text with a record for each filled slot
   module _ (text : List ℕ) (known : Known text)
-      (holds : (n : ℕ) → isSlotNumber n ≡ true → isFilled (slot_at start n) ≡ true → In (entry_of n (slot_at start n)) known.records) where
+      (holds : (n : ℕ) → is_slot_number n ≡ true → is_filled (slot_at start n) ≡ true → In (entry_of n (slot_at start n)) known.records) where
     joins : (e : Entry) → In e after → Joins known.records after (pair_of trace e)
     joins e m =
         let c = came e m in
@@ -173,7 +173,7 @@ module _ (start : List Slot) (size : length start ≡ 32) (sound : hasBad start 
       joined = λ p m. let r = map-in (pair_of trace) after p m in subst (Joins known.records after) (sym r.is) (joins r.source r.there);
     }
 
-    pub kept-converts : Converts text (entriesText after) (pairsOf pairs)
+    pub kept-converts : Converts text (entries_text after) (pairs_of pairs)
     kept-converts = record {
       befores = known.records;
       afters = after;

@@ -2,52 +2,52 @@
 use Rattle.std.specs.Prelude.{◌≡◌, Bool, true, false, ◌||◌, List, [], ◌∷◌, ◌++◌, ℕ, suc, ◌<◌, ◌≤◌, length, get_or}
 use Rattle.std.proofs.Math.Option.{Option, none, some}
 use Rattle.laws.specs.Choice.{pick}
-use Rattle.fields.specs.Fields.{isSlotNumber}
+use Rattle.fields.specs.Fields.{is_slot_number}
 use Rattle.slots.specs.declared.Slot.{Slot}
-use Rattle.slots.specs.Slots.{isFilled, hasBad, slot_at}
-use Rattle.record_text.specs.Text.{recordText}
+use Rattle.slots.specs.Slots.{is_filled, has_bad, slot_at}
+use Rattle.record_text.specs.Text.{record_text}
 use Rattle.record_reader.specs.Record.{Entry}
-use Rattle.two_runs.specs.Calls.{Call, load, move, clear, read, traffic, Origin, loadAt, present}
+use Rattle.two_runs.specs.Calls.{Call, load, move, clear, read, traffic, Origin, load_at, present}
 use Rattle.two_runs.specs.Trace.{Trace}
 
 abbrev pub entry_of : ℕ → Slot → Entry
 entry_of number s = record { number = number; fields = s.fields; key = s.key }
 
 -- of the slots from this number on, the records of those that are filled, in the order of their numbers
-unfoldable pub entriesFrom : ℕ → List Slot → List Entry
-entriesFrom number [] = []
-entriesFrom number (s ∷ slots) = pick (isFilled s) (entry_of number s ∷ entriesFrom (suc number) slots) (entriesFrom (suc number) slots)
+unfoldable pub entries_from : ℕ → List Slot → List Entry
+entries_from number [] = []
+entries_from number (s ∷ slots) = pick (is_filled s) (entry_of number s ∷ entries_from (suc number) slots) (entries_from (suc number) slots)
 
-abbrev pub entriesOf : List Slot → List Entry
-entriesOf table = entriesFrom 1 table
+abbrev pub entries_of : List Slot → List Entry
+entries_of table = entries_from 1 table
 
 -- as they are written: form 2, one after the other
-unfoldable pub entriesText : List Entry → List ℕ
-entriesText [] = []
-entriesText (e ∷ es) = recordText e.number e.fields e.key ++ entriesText es
+unfoldable pub entries_text : List Entry → List ℕ
+entries_text [] = []
+entries_text (e ∷ es) = record_text e.number e.fields e.key ++ entries_text es
 
 -- the number of the slot that held it at the start; 0, which is no slot's number, where none did
-abbrev pub startNumber : Option Origin → ℕ
-startNumber none = 0
-startNumber (some (loadAt place)) = 0
-startNumber (some (present number)) = number
+abbrev pub start_number : Option Origin → ℕ
+start_number none = 0
+start_number (some (load_at place)) = 0
+start_number (some (present number)) = number
 
 -- a pair for each record, flat: the number it had at the start, and its number
-unfoldable pub pairsLeft : Trace → List Entry → List ℕ
-pairsLeft trace [] = []
-pairsLeft trace (e ∷ es) = startNumber (trace e.number) ∷ e.number ∷ pairsLeft trace es
+unfoldable pub pairs_left : Trace → List Entry → List ℕ
+pairs_left trace [] = []
+pairs_left trace (e ∷ es) = start_number (trace e.number) ∷ e.number ∷ pairs_left trace es
 
 -- calls that load nothing: moves and clears, and whatever changes no slot
-abbrev pub isLoad : Call → Bool
-isLoad (load number a key) = true
-isLoad (move from to asked) = false
-isLoad (clear number) = false
-isLoad (read number) = false
-isLoad (traffic how buf w) = false
+abbrev pub is_load : Call → Bool
+is_load (load number a key) = true
+is_load (move from to asked) = false
+is_load (clear number) = false
+is_load (read number) = false
+is_load (traffic how buf w) = false
 
-unfoldable pub hasLoad : List Call → Bool
-hasLoad [] = false
-hasLoad (c ∷ cs) = isLoad c || hasLoad cs
+unfoldable pub has_load : List Call → Bool
+has_load [] = false
+has_load (c ∷ cs) = is_load c || has_load cs
 
 -- a slot's version is 16 bits and its key 24 bytes, by their kind
 pub record OfKind (s : Slot) : Type 0 where
@@ -58,5 +58,5 @@ pub record OfKind (s : Slot) : Type 0 where
 -- a table of 32 slots, none of them bad
 pub record SoundTable (table : List Slot) : Type 0 where
   pub size : length table ≡ 32
-  pub good : hasBad table ≡ false
-  pub kind : (number : ℕ) → isSlotNumber number ≡ true → OfKind (slot_at table number)
+  pub good : has_bad table ≡ false
+  pub kind : (number : ℕ) → is_slot_number number ≡ true → OfKind (slot_at table number)

@@ -9,12 +9,12 @@ use lib.Dec.{eqb}
 use lib.ListN.{length, get_or, set, length-set}
 use lib.Seq.{get_or-set_same}
 use Rattle.laws.proofs.Cases.{pick-cases, lt-or-le}
-use Rattle.block_counts.specs.Counts.{blockAfter}
+use Rattle.block_counts.specs.Counts.{block_after}
 use Rattle.block_counts.proofs.Blocks.{after_none, after-some}
 use Rattle.tea.specs.declared.mode.Mode.{Mode}
 use Rattle.tea.specs.Keystream.{block_of}
 use Rattle.keystream.specs.declared.Work.{Work}
-use Rattle.keystream.specs.Work.{withBlock, at_block, Held}
+use Rattle.keystream.specs.Work.{with_block, at_block, Held}
 
 -- block j is put in its place
 pub put-held : (mode : Mode) (j : ℕ) (kept : List (List ℕ)) → length kept ≡ 2 → Held mode (j + 1) (set kept (j % 2) (block_of mode j))
@@ -53,10 +53,10 @@ one_more m b j h lo hi = omega arith
 
 -- a run of `done` bits, and then `some` bits more of one block: the number after the last block's, and the blocks made for the run
 module _ (first skip done some : ℕ) (in_block : (skip + done) % 256 + some ≤ 256) (more : 0 < some) where
-  pub next-later : (skip + done) / 256 + 1 ≡ blockAfter first skip (done + some)
+  pub next-later : (skip + done) / 256 + 1 ≡ block_after first skip (done + some)
   next-later = sym (after-some first skip (done + some) (omega arith) ∙ omega arith)
 
-  module _ (next : ℕ) (e : next ≡ blockAfter first skip done) (h : first ≤ skip / 256 + 1) where
+  module _ (next : ℕ) (e : next ≡ block_after first skip done) (h : first ≤ skip / 256 + 1) where
     pub next_small : next ≤ (skip + done) / 256 + 1
     next_small =
         ⊎_elim

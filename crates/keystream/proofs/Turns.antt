@@ -4,10 +4,10 @@ use mathlib.Core.List.{List}
 use Prim.Native.Nat.{ℕ, zero, suc, ◌+◌, ◌-◌, ◌/◌, ◌<◌, ◌≤◌, max}
 use native.Mathlib.Omega.{arith}
 use lib.ListN.{length}
-use Rattle.block_counts.specs.Counts.{blocksUsed, blockAfter}
+use Rattle.block_counts.specs.Counts.{blocks_used, block_after}
 use Rattle.block_counts.proofs.Blocks.{after-used, after-early, both_used}
 use Rattle.keystream.specs.declared.Run.{Run}
-use Rattle.keystream.specs.Work.{Fits, Later, throughRun, blocksOver}
+use Rattle.keystream.specs.Work.{Fits, Later, through_run, blocks_over}
 
 one_up : (t : ℕ) → t + 1 ≡ suc t
 one_up t = omega arith
@@ -21,20 +21,20 @@ module _ (p q : Run) where
   -- the number after the last block's, and the blocks made, before a turn
   abbrev pub next_at : ℕ → ℕ
   next_at zero = 0
-  next_at (suc t) = blockAfter (next_at t) (run_at t).skip (run_at t).n
+  next_at (suc t) = block_after (next_at t) (run_at t).skip (run_at t).n
 
-  abbrev pub madeAt : ℕ → ℕ
-  madeAt zero = 0
-  madeAt (suc t) = madeAt t + (next_at (suc t) - max (next_at t) ((run_at t).skip / 256))
+  abbrev pub made_at : ℕ → ℕ
+  made_at zero = 0
+  made_at (suc t) = made_at t + (next_at (suc t) - max (next_at t) ((run_at t).skip / 256))
 
   pub run-after : (t : ℕ) → run_at (t + 1) ≡ q
   run-after t = ap run_at (one_up t)
 
-  pub next-after : (t : ℕ) → next_at (t + 1) ≡ blockAfter (next_at t) (run_at t).skip (run_at t).n
+  pub next-after : (t : ℕ) → next_at (t + 1) ≡ block_after (next_at t) (run_at t).skip (run_at t).n
   next-after t = ap next_at (one_up t)
 
-  pub made_after : (t : ℕ) → madeAt (t + 1) ≡ madeAt t + (next_at (t + 1) - max (next_at t) ((run_at t).skip / 256))
-  made_after t = ap madeAt (one_up t) ∙ ap (λ (m : ℕ). madeAt t + (m - max (next_at t) ((run_at t).skip / 256))) (sym (next-after t))
+  pub made_after : (t : ℕ) → made_at (t + 1) ≡ made_at t + (next_at (t + 1) - max (next_at t) ((run_at t).skip / 256))
+  made_after t = ap made_at (one_up t) ∙ ap (λ (m : ℕ). made_at t + (m - max (next_at t) ((run_at t).skip / 256))) (sym (next-after t))
 
   pub fits-at : (buf : List ℕ) → Fits buf p → Fits buf q → (t : ℕ) → Fits buf (run_at t)
   fits-at buf hp hq zero = hp
@@ -47,20 +47,20 @@ module _ (p q : Run) where
   early-at later (suc (suc t)) h some = absurd (omega arith)
 
   -- after both
-  pub both-made : Later p q → madeAt 2 ≡ blocksOver p q
+  pub both-made : Later p q → made_at 2 ≡ blocks_over p q
   both-made later =
       ap (λ (m : ℕ). m + (next_at 2 - max (next_at 1) (q.skip / 256))) first ∙ both_used p.skip p.n q.skip q.n later
     where
-      first : madeAt 1 ≡ blocksUsed p.skip p.n
+      first : made_at 1 ≡ blocks_used p.skip p.n
       first = omega (arith, after-used p.skip p.n)
 
   module _ (k : ℕ → ℕ) (buf : List ℕ) where
-    abbrev pub bufAt : ℕ → List ℕ
-    bufAt zero = buf
-    bufAt (suc t) = throughRun (bufAt t) k (run_at t)
+    abbrev pub buf_at : ℕ → List ℕ
+    buf_at zero = buf
+    buf_at (suc t) = through_run (buf_at t) k (run_at t)
 
-    pub buf-after : (t : ℕ) → bufAt (t + 1) ≡ throughRun (bufAt t) k (run_at t)
-    buf-after t = ap bufAt (one_up t)
+    pub buf-after : (t : ℕ) → buf_at (t + 1) ≡ through_run (buf_at t) k (run_at t)
+    buf-after t = ap buf_at (one_up t)
 
 -- a run that fits a buffer fits one of that length
 pub fits-long : (a b : List ℕ) (p : Run) → length a ≡ length b → Fits b p → Fits a p

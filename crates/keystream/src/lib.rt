@@ -2,14 +2,14 @@
 // What a call makes is a value: `begin` alone fills a key schedule, `make` alone makes a block, and both count.
 ghost use Rattle.std.specs.Prelude.{◌≡◌, [], ◌+◌, ◌-◌, ◌*◌, ◌/◌, ◌%◌, ◌<◌, ◌≤◌, min, max, length, get_or, set};
 ghost use Rattle.laws.specs.Lists.{tabulate};
-ghost use Rattle.gf256.specs.Field.{sBoxes};
+ghost use Rattle.gf256.specs.Field.{s_boxes};
 ghost use Rattle.products.specs.Products.{products};
-ghost use Rattle.schedule.specs.Schedule.{keyWord};
-ghost use Rattle.span.specs.Span.{longestBuffer, longestStream, xored, streamBit};
-ghost use Rattle.block_counts.specs.Counts.{blockAfter, blocksUsed};
+ghost use Rattle.schedule.specs.Schedule.{key_word};
+ghost use Rattle.span.specs.Span.{longest_buffer, longest_stream, xored, stream_bit};
+ghost use Rattle.block_counts.specs.Counts.{block_after, blocks_used};
 ghost use Rattle.tea.specs.Keystream.{block_of};
 ghost use Rattle.keystream.specs.Stream.{keystream};
-ghost use Rattle.keystream.specs.Work.{begun, withBlock, at_block, Held, Fits, Later, throughRun, blocksOver};
+ghost use Rattle.keystream.specs.Work.{begun, with_block, at_block, Held, Fits, Later, through_run, blocks_over};
 
 use tea::mode::Mode;
 
@@ -46,8 +46,8 @@ fn piece(from: usize, left: usize) -> usize
 
 // Fills the schedule: the one caller of expand_key.
 fn begin(w: &mut [u32], key: [u8; 24], table: &[u8; 256]) -> Work
-    requires { (length w.old ≡ 120) × (table.now ≡ sBoxes) }
-    ensures { (w.new ≡ tabulate (keyWord key) 0 120) × (result ≡ begun) }
+    requires { (length w.old ≡ 120) × (table.now ≡ s_boxes) }
+    ensures { (w.new ≡ tabulate (key_word key) 0 120) × (result ≡ begun) }
 {
     schedule::expand_key(w, key, table);
     Work {
@@ -69,8 +69,8 @@ fn make(
     table: &[u8; 256],
     mixes: &[u8; 2048],
 ) -> Work
-    requires { (work.next ≤ j) × (work.blocks ≤ j) × (j < 256) × ((w.now ≡ tabulate (keyWord mode.key) 0 120) × ((table.now ≡ sBoxes) × (mixes.now ≡ products))) }
-    ensures { (result ≡ withBlock work j) × (kept.new ≡ set kept.old (j % 2) (block_of mode j)) }
+    requires { (work.next ≤ j) × (work.blocks ≤ j) × (j < 256) × ((w.now ≡ tabulate (key_word mode.key) 0 120) × ((table.now ≡ s_boxes) × (mixes.now ≡ products))) }
+    ensures { (result ≡ with_block work j) × (kept.new ≡ set kept.old (j % 2) (block_of mode j)) }
 {
     let value = mode.value;
     kept[j % 2] = rijndael::encrypt_block(
@@ -96,7 +96,7 @@ fn reach(
     table: &[u8; 256],
     mixes: &[u8; 2048],
 ) -> Work
-    requires { (work.next ≤ j + 1) × (work.blocks ≤ work.next) × (j < 256) × Held mode work.next kept.old × ((w.now ≡ tabulate (keyWord mode.key) 0 120) × ((table.now ≡ sBoxes) × (mixes.now ≡ products))) }
+    requires { (work.next ≤ j + 1) × (work.blocks ≤ work.next) × (j < 256) × Held mode work.next kept.old × ((w.now ≡ tabulate (key_word mode.key) 0 120) × ((table.now ≡ s_boxes) × (mixes.now ≡ products))) }
     ensures { (result ≡ at_block work j) × Held mode (j + 1) kept.new }
 {
     if work.next == j + 1 {
@@ -116,10 +116,10 @@ fn xor_run(
     table: &[u8; 256],
     mixes: &[u8; 2048],
 ) -> Work
-    requires { (length buf.old ≤ longestBuffer) × Fits buf.old p × (0 < p.n → work.next ≤ p.skip / 256 + 1) × (work.blocks ≤ work.next) × Held mode work.next kept.old × ((w.now ≡ tabulate (keyWord mode.key) 0 120) × ((table.now ≡ sBoxes) × (mixes.now ≡ products))) }
-    ensures { (buf.new ≡ throughRun buf.old (streamBit (block_of mode)) p)
+    requires { (length buf.old ≤ longest_buffer) × Fits buf.old p × (0 < p.n → work.next ≤ p.skip / 256 + 1) × (work.blocks ≤ work.next) × Held mode work.next kept.old × ((w.now ≡ tabulate (key_word mode.key) 0 120) × ((table.now ≡ s_boxes) × (mixes.now ≡ products))) }
+    ensures { (buf.new ≡ through_run buf.old (stream_bit (block_of mode)) p)
         × (result.schedules ≡ work.schedules)
-        × (result.next ≡ blockAfter work.next p.skip p.n)
+        × (result.next ≡ block_after work.next p.skip p.n)
         × (result.blocks ≡ work.blocks + (result.next - max work.next (p.skip / 256)))
         × (result.blocks ≤ result.next)
         × Held mode result.next kept.new }
@@ -144,10 +144,10 @@ fn xor_run(
 // Two runs of one keystream, the second behind the first: bit start + i of the buffer becomes itself xor keystream bit skip + i, for i below n,
 // first for the one and then for the other. The schedule is filled once, and a block that both use is made once.
 pub fn xor_runs(buf: &mut [u8], p: Run, q: Run, algorithm: u64, ck: [u8; 24], iv: [u8; 10]) -> Tally
-    requires { (length buf.old ≤ longestBuffer) × Fits buf.old p × Fits buf.old q × Later p q }
-    ensures { (buf.new ≡ throughRun (throughRun buf.old (keystream algorithm ck iv) p) (keystream algorithm ck iv) q)
+    requires { (length buf.old ≤ longest_buffer) × Fits buf.old p × Fits buf.old q × Later p q }
+    ensures { (buf.new ≡ through_run (through_run buf.old (keystream algorithm ck iv) p) (keystream algorithm ck iv) q)
         × (result.schedules ≡ 1)
-        × (result.blocks ≡ blocksOver p q) }
+        × (result.blocks ≡ blocks_over p q) }
 {
     let table = gf256::s_box_table();
     let mode = tea::mode::mode_of(algorithm, ck, iv);
@@ -177,10 +177,10 @@ pub fn xor_keystream(
     ck: [u8; 24],
     iv: [u8; 10],
 ) -> Tally
-    requires { (length buf.old ≤ longestBuffer) × (start + n ≤ 8 * length buf.old) × (skip + n ≤ longestStream) }
+    requires { (length buf.old ≤ longest_buffer) × (start + n ≤ 8 * length buf.old) × (skip + n ≤ longest_stream) }
     ensures { (buf.new ≡ xored buf.old (keystream algorithm ck iv) start skip n)
         × (result.schedules ≡ 1)
-        × (result.blocks ≡ blocksUsed skip n) }
+        × (result.blocks ≡ blocks_used skip n) }
 {
     let none = Run {
         start: 0,

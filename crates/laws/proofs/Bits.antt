@@ -12,7 +12,7 @@ use lib.Dec.{eqb, lit<}
 use lib.ListN.{length, get_or, set, length-set, get_or-append, get_or-eq_default}
 use lib.Pow.{pow_pos, pow_mono, field, mod-mod-pow}
 use lib.Seq.{get_or-set_same, get_or-set_other, get_or-append-add}
-use Rattle.laws.specs.Bits.{bit_of, bit_at, byteOfBits, bytesOfBits}
+use Rattle.laws.specs.Bits.{bit_of, bit_at, byte_of_bits, bytes_of_bits}
 use Rattle.laws.proofs.Cases.{below-eight, eq-or-ne, lt-or-le}
 use Rattle.laws.proofs.Lists.{length-tabulate, get_d_tabulate, tabulate-ext}
 use Rattle.laws.proofs.Tests.{agree}
@@ -96,13 +96,13 @@ at_back a b j =
 
 -- a byte is its bits
 
-pub byte-is-bits : (x : ℕ) → x < 256 → byteOfBits (bit_of x) ≡ x
-unfolding byteOfBits bit_of
-byte-is-bits x h = agree (λ y. byteOfBits (bit_of y)) (λ y. y) 0 256 tt x zero-le h
+pub byte-is-bits : (x : ℕ) → x < 256 → byte_of_bits (bit_of x) ≡ x
+unfolding byte_of_bits bit_of
+byte-is-bits x h = agree (λ y. byte_of_bits (bit_of y)) (λ y. y) 0 256 tt x zero-le h
 
 -- a byte that is made of bits p has these bits
-pub bits-of-byte : (p : ℕ → ℕ) → ((t : ℕ) → p t < 2) → (t : ℕ) → t < 8 → bit_of (byteOfBits p) t ≡ p t
-unfolding byteOfBits bit_of
+pub bits-of-byte : (p : ℕ → ℕ) → ((t : ℕ) → p t < 2) → (t : ℕ) → t < 8 → bit_of (byte_of_bits p) t ≡ p t
+unfolding byte_of_bits bit_of
 bits-of-byte p small =
     let s0 = small 0 in
     let s1 = small 1 in
@@ -112,17 +112,17 @@ bits-of-byte p small =
     let s5 = small 5 in
     let s6 = small 6 in
     let s7 = small 7 in
-    below-eight (λ t. bit_of (byteOfBits p) t ≡ p t)
+    below-eight (λ t. bit_of (byte_of_bits p) t ≡ p t)
     (omega arith) (omega arith) (omega arith) (omega arith) (omega arith) (omega arith) (omega arith) (omega arith)
 
-pub byte-lt : (p : ℕ → ℕ) → ((t : ℕ) → p t < 2) → byteOfBits p < 256
-unfolding byteOfBits
+pub byte-lt : (p : ℕ → ℕ) → ((t : ℕ) → p t < 2) → byte_of_bits p < 256
+unfolding byte_of_bits
 byte-lt p small =
     omega (arith, small 0, small 1, small 2, small 3, small 4, small 5, small 6, small 7)
 
 -- the same bits, the same byte
-pub byte-ext : (p q : ℕ → ℕ) → ((t : ℕ) → t < 8 → p t ≡ q t) → byteOfBits p ≡ byteOfBits q
-unfolding byteOfBits
+pub byte-ext : (p q : ℕ → ℕ) → ((t : ℕ) → t < 8 → p t ≡ q t) → byte_of_bits p ≡ byte_of_bits q
+unfolding byte_of_bits
 byte-ext p q e =
     λ i.
     e 0 (lit< tt) i * 128 + e 1 (lit< tt) i * 64 + e 2 (lit< tt) i * 32 + e 3 (lit< tt) i * 16 + e 4 (lit< tt) i * 8 + e 5 (lit< tt) i * 4
@@ -130,29 +130,29 @@ byte-ext p q e =
 
 -- a list of bytes is its bits
 
-pub length-bytes : (p : ℕ → ℕ) (n : ℕ) → length (bytesOfBits p n) ≡ n
-unfolding bytesOfBits
+pub length-bytes : (p : ℕ → ℕ) (n : ℕ) → length (bytes_of_bits p n) ≡ n
+unfolding bytes_of_bits
 length-bytes p n = length-tabulate _ 0 n
 
-pub bytes_lt : (p : ℕ → ℕ) (n : ℕ) → ((i : ℕ) → p i < 2) → (q : ℕ) → get_or (bytesOfBits p n) q 0 < 256
-unfolding bytesOfBits
+pub bytes_lt : (p : ℕ → ℕ) (n : ℕ) → ((i : ℕ) → p i < 2) → (q : ℕ) → get_or (bytes_of_bits p n) q 0 < 256
+unfolding bytes_of_bits
 bytes_lt p n small q =
     ⊎_elim
     (λ u. subst (λ (x : ℕ). x < 256) (sym (get_d_tabulate _ 0 n q 0 u)) (byte-lt _ (λ t. small _)))
-    (λ u. subst (λ (x : ℕ). x < 256) (sym (get_or-eq_default (bytesOfBits p n) 0 (omega (arith, length-bytes p n)))) (lit< tt))
+    (λ u. subst (λ (x : ℕ). x < 256) (sym (get_or-eq_default (bytes_of_bits p n) 0 (omega (arith, length-bytes p n)))) (lit< tt))
     (lt-or-le q n)
 
 -- the same bits, the same bytes
-pub bytes-ext : (p q : ℕ → ℕ) (n : ℕ) → ((j : ℕ) → j < 8 * n → p j ≡ q j) → bytesOfBits p n ≡ bytesOfBits q n
-unfolding bytesOfBits
+pub bytes-ext : (p q : ℕ → ℕ) (n : ℕ) → ((j : ℕ) → j < 8 * n → p j ≡ q j) → bytes_of_bits p n ≡ bytes_of_bits q n
+unfolding bytes_of_bits
 bytes-ext p q n e =
-    tabulate-ext _ 0 n 0 (bytesOfBits p n) (length-bytes p n)
+    tabulate-ext _ 0 n 0 (bytes_of_bits p n) (length-bytes p n)
     (λ k h. get_d_tabulate _ 0 n k 0 h ∙ byte-ext _ _ (λ t u. e (8 * (0 + k) + t) (omega arith)))
 
 -- a list of n bytes whose bits are p's is the bytes of p
 pub bytes-are-bits : (l : List ℕ) (p : ℕ → ℕ) (n : ℕ) → length l ≡ n → ((q : ℕ) → get_or l q 0 < 256)
-    → ((j : ℕ) → j < 8 * n → bit_at l j ≡ p j) → l ≡ bytesOfBits p n
-unfolding bytesOfBits
+    → ((j : ℕ) → j < 8 * n → bit_at l j ≡ p j) → l ≡ bytes_of_bits p n
+unfolding bytes_of_bits
 bytes-are-bits l p n e small h =
     tabulate-ext _ 0 n 0 l e
     (λ q k.
@@ -163,8 +163,8 @@ bytes-are-bits l p n e small h =
     rw z (sym (at_byte l q t u) ∙ h (8 * q + t) (omega arith))))
 
 -- the bits of the bytes of p are p's
-pub bits_of_bytes : (p : ℕ → ℕ) (n : ℕ) → ((i : ℕ) → p i < 2) → (j : ℕ) → j < 8 * n → bit_at (bytesOfBits p n) j ≡ p j
-unfolding bytesOfBits bit_at
+pub bits_of_bytes : (p : ℕ → ℕ) (n : ℕ) → ((i : ℕ) → p i < 2) → (j : ℕ) → j < 8 * n → bit_at (bytes_of_bits p n) j ≡ p j
+unfolding bytes_of_bits bit_at
 bits_of_bytes p n small j h =
     ap (λ (x : ℕ). bit_of x (j % 8)) (get_d_tabulate _ 0 n (j / 8) 0 (omega arith))
     ∙ bits-of-byte (λ t. p (8 * (0 + j / 8) + t)) (λ t. small _) (j % 8) (omega arith)
@@ -177,16 +177,16 @@ bits-ext a b e ha hb h =
     bytes-are-bits a (bit_at b) (length b) e ha (λ j k. h j) ∙ sym (bytes-are-bits b (bit_at b) (length b) refl hb (λ j k. refl))
 
 -- a byte that was stored has the bits of p, and every other bit is p's
-pub set-bytes : (l : List ℕ) (p : ℕ → ℕ) (y v : ℕ) → y < length l → ((q : ℕ) → get_or l q 0 < 256) → v ≡ byteOfBits (λ t. p (8 * y + t))
-    → ((j : ℕ) → (j / 8 ≡ y → ⊥) → bit_at l j ≡ p j) → set l y v ≡ bytesOfBits p (length l)
-unfolding bytesOfBits
+pub set-bytes : (l : List ℕ) (p : ℕ → ℕ) (y v : ℕ) → y < length l → ((q : ℕ) → get_or l q 0 < 256) → v ≡ byte_of_bits (λ t. p (8 * y + t))
+    → ((j : ℕ) → (j / 8 ≡ y → ⊥) → bit_at l j ≡ p j) → set l y v ≡ bytes_of_bits p (length l)
+unfolding bytes_of_bits
 set-bytes l p y v h small e others =
     tabulate-ext _ 0 (length l) 0 (set l y v) (length-set l y v) (λ q k. rw zero-add (⊎_elim (same q) (other q) (eq-or-ne q y)))
   where
-    same : (q : ℕ) → q ≡ y → get_or (set l y v) q 0 ≡ byteOfBits (λ t. p (8 * q + t))
+    same : (q : ℕ) → q ≡ y → get_or (set l y v) q 0 ≡ byte_of_bits (λ t. p (8 * q + t))
     same q w = rw w (get_or-set_same l y v 0 h ∙ e)
 
-    other : (q : ℕ) → (q ≡ y → ⊥) → get_or (set l y v) q 0 ≡ byteOfBits (λ t. p (8 * q + t))
+    other : (q : ℕ) → (q ≡ y → ⊥) → get_or (set l y v) q 0 ≡ byte_of_bits (λ t. p (8 * q + t))
     other q w =
         get_or-set_other l y q v 0 w
         ∙ sym (byte-is-bits (get_or l q 0) (small q))

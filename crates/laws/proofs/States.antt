@@ -123,14 +123,14 @@ place-all {place} {f} {t} {n} g h =
         (λ c hc. g.cells r c hr hc (h r c hr hc) ∙ ap (f r) (sym (zero-add c)))
 
 -- column by column: columns below c are f's
-abbrev pub byColumn : ℕ → ℕ → ℕ
-byColumn r c = 4 * c + r
+abbrev pub by_column : ℕ → ℕ → ℕ
+by_column r c = 4 * c + r
 
-column_apart : Apart byColumn
+column_apart : Apart by_column
 column_apart r c i k hr hc hi hk e = (omega arith, omega arith)
 
 abbrev pub Columns : (ℕ → ℕ → ℕ) → List (List ℕ) → ℕ → Type 0
-Columns f t c = Placed byColumn f t (4 * c)
+Columns f t c = Placed by_column f t (4 * c)
 
 pub columns-none : {f : ℕ → ℕ → ℕ} {t : List (List ℕ)} → Shape t → Columns f t 0
 columns-none = place_none
@@ -138,7 +138,7 @@ columns-none = place_none
 pub columns-more : {f : ℕ → ℕ → ℕ} {t : List (List ℕ)} {c : ℕ} → Columns f t c → c < 8 → (v w x y : ℕ) → v ≡ f 0 c → w ≡ f 1 c → x ≡ f 2 c → y ≡ f 3 c
     → Columns f (put (put (put (put t 0 c v) 1 c w) 2 c x) 3 c y) (c + 1)
 columns-more {f} {t} {c} g h v w x y p q r s =
-    subst (λ (n : ℕ). Placed byColumn f (put (put (put (put t 0 c v) 1 c w) 2 c x) 3 c y) n) (omega arith)
+    subst (λ (n : ℕ). Placed by_column f (put (put (put (put t 0 c v) 1 c w) 2 c x) 3 c y) n) (omega arith)
     (place-more column_apart
     (place-more column_apart
     (place-more column_apart
@@ -151,25 +151,25 @@ pub columns-all : {f : ℕ → ℕ → ℕ} {t : List (List ℕ)} {c : ℕ} → 
 columns-all {f} {t} {c} g h = place-all g (λ r k hr hk. omega arith)
 
 -- row by row: rows below r, and row r below c, are f's
-abbrev pub byRow : ℕ → ℕ → ℕ
-byRow r c = 8 * r + c
+abbrev pub by_row : ℕ → ℕ → ℕ
+by_row r c = 8 * r + c
 
-row_apart : Apart byRow
+row_apart : Apart by_row
 row_apart r c i k hr hc hi hk e = (omega arith, omega arith)
 
 abbrev pub Rows : (ℕ → ℕ → ℕ) → List (List ℕ) → ℕ → ℕ → Type 0
-Rows f t r c = Placed byRow f t (8 * r + c)
+Rows f t r c = Placed by_row f t (8 * r + c)
 
 pub rows_none : {f : ℕ → ℕ → ℕ} {t : List (List ℕ)} → Shape t → Rows f t 0 0
 rows_none = place_none
 
 pub rows_more : {f : ℕ → ℕ → ℕ} {t : List (List ℕ)} {r c : ℕ} → Rows f t r c → r < 4 → c < 8 → (v : ℕ) → v ≡ f r c → Rows f (put t r c v) r (c + 1)
 rows_more {f} {t} {r} {c} g hr hc v e =
-    subst (λ (n : ℕ). Placed byRow f (put t r c v) n) (omega arith) (place-more row_apart g r c hr hc (omega arith) refl v e)
+    subst (λ (n : ℕ). Placed by_row f (put t r c v) n) (omega arith) (place-more row_apart g r c hr hc (omega arith) refl v e)
 
 -- a whole row is passed
 pub rows_next : {f : ℕ → ℕ → ℕ} {t : List (List ℕ)} (r c : ℕ) → Rows f t r c → c ≡ 8 → Rows f t (r + 1) 0
-rows_next {f} {t} r c g e = subst (λ (n : ℕ). Placed byRow f t n) (omega arith) g
+rows_next {f} {t} r c g e = subst (λ (n : ℕ). Placed by_row f t n) (omega arith) g
 
 pub rows_all : {f : ℕ → ℕ → ℕ} {t : List (List ℕ)} {r : ℕ} → Rows f t r 0 → 4 ≤ r → t ≡ grid 4 8 f
 rows_all {f} {t} {r} g h = place-all g (λ i k hi hk. omega arith)

@@ -1,8 +1,8 @@
 // What is mended in a line of a damaged record sheet (document 02, [12]).
 ghost use Rattle.std.specs.Prelude.{◌&&◌, ◌≡◌, eqb, ltb};
-ghost use Rattle.line_parts.specs.Line.{valueIn};
-ghost use Rattle.line_names.specs.Names.{keyName, numberIn};
-ghost use Rattle.line_faults.specs.Faults.{zerosIn, zerosDropped, isUpperHex, anyUpperHex, lowerHex, hasFault};
+ghost use Rattle.line_parts.specs.Line.{value_in};
+ghost use Rattle.line_names.specs.Names.{key_name, number_in};
+ghost use Rattle.line_faults.specs.Faults.{zeros_in, zeros_dropped, is_upper_hex, any_upper_hex, lower_hex, has_fault};
 
 use line_names::{is_decimal, number_in};
 use line_parts::{ends_with, front, is_spaced, leading, value_in};
@@ -20,7 +20,7 @@ pub enum Fault {
 
 // How many zeros a number begins with that are dropped: its last digit stays.
 fn zeros_in(value: &[u8]) -> usize
-    ensures { result ≡ zerosIn value.now }
+    ensures { result ≡ zeros_in value.now }
 {
     let n = value.len();
     if n == 0 {
@@ -31,7 +31,7 @@ fn zeros_in(value: &[u8]) -> usize
 
 // How many zeros are dropped from the value under a name: only a number loses any.
 pub fn zeros_dropped(k: usize, value: &[u8]) -> usize
-    ensures { result ≡ zerosDropped k value.now }
+    ensures { result ≡ zeros_dropped k value.now }
 {
     if is_decimal(k) {
         return zeros_in(value);
@@ -41,7 +41,7 @@ pub fn zeros_dropped(k: usize, value: &[u8]) -> usize
 
 // A to F?
 fn is_upper_hex(b: u8) -> bool
-    ensures { result ≡ isUpperHex b }
+    ensures { result ≡ is_upper_hex b }
 {
     if b < 65 {
         return false;
@@ -50,7 +50,7 @@ fn is_upper_hex(b: u8) -> bool
 }
 
 fn any_upper_hex(s: &[u8]) -> bool
-    ensures { result ≡ anyUpperHex s.now }
+    ensures { result ≡ any_upper_hex s.now }
 {
     let mut i = 0;
     while i < s.len() {
@@ -64,7 +64,7 @@ fn any_upper_hex(s: &[u8]) -> bool
 
 // A to F become a to f.
 pub fn lower_hex(b: u8) -> u8
-    ensures { result ≡ lowerHex b }
+    ensures { result ≡ lower_hex b }
 {
     if is_upper_hex(b) {
         return b + 32;
@@ -74,7 +74,7 @@ pub fn lower_hex(b: u8) -> u8
 
 // The line of a key with a digit A to F?
 fn has_upper_hex(line: &[u8]) -> bool
-    ensures { result ≡ eqb (numberIn line.now) keyName && anyUpperHex (valueIn line.now) }
+    ensures { result ≡ eqb (number_in line.now) key_name && any_upper_hex (value_in line.now) }
 {
     if number_in(line) != line_names::KEY {
         return false;
@@ -84,7 +84,7 @@ fn has_upper_hex(line: &[u8]) -> bool
 
 // A line with zeros that are dropped?
 fn has_zeros(line: &[u8]) -> bool
-    ensures { result ≡ ltb 0 (zerosDropped (numberIn line.now) (valueIn line.now)) }
+    ensures { result ≡ ltb 0 (zeros_dropped (number_in line.now) (value_in line.now)) }
 {
     let value = value_in(line);
     0 < zeros_dropped(number_in(line), value)
@@ -92,7 +92,7 @@ fn has_zeros(line: &[u8]) -> bool
 
 // Does a line have a fault?
 pub fn has_fault(line: &[u8], fault: Fault) -> bool
-    ensures { result ≡ hasFault fault line.now }
+    ensures { result ≡ has_fault fault line.now }
 {
     match fault {
         Fault::Crlf => ends_with(line, CR),

@@ -2,61 +2,61 @@
 use Rattle.std.specs.Prelude.{Bool, true, false, not, ◌&&◌, List, [], ◌∷◌, ℕ, zero, suc, ◌+◌, eqb, ltb, get_or}
 use Rattle.laws.specs.Choice.{pick}
 use Rattle.writing.specs.Text.{ascii}
-use Rattle.line_parts.specs.Line.{nameIn}
+use Rattle.line_parts.specs.Line.{name_in}
 
-abbrev pub nameTexts : List (List ℕ)
-nameTexts =
+abbrev pub name_texts : List (List ℕ)
+name_texts =
     ascii "form" ∷ ascii "number" ∷ ascii "version" ∷ ascii "alg" ∷ ascii "use" ∷ ascii "side" ∷ ascii "place" ∷ ascii "mcc" ∷ ascii "mnc" ∷ ascii "key" ∷ []
 
-unfoldable pub nameText : ℕ → List ℕ
-nameText k = get_or nameTexts k []
+unfoldable pub name_text : ℕ → List ℕ
+name_text k = get_or name_texts k []
 
-abbrev pub nameCount : ℕ
-nameCount = 10
+abbrev pub name_count : ℕ
+name_count = 10
 
 -- the numbers of the names by which a rule goes
-abbrev pub formName : ℕ
-formName = 0
+abbrev pub form_name : ℕ
+form_name = 0
 
-abbrev pub algName : ℕ
-algName = 3
+abbrev pub alg_name : ℕ
+alg_name = 3
 
-abbrev pub useName : ℕ
-useName = 4
+abbrev pub use_name : ℕ
+use_name = 4
 
-abbrev pub mccName : ℕ
-mccName = 7
+abbrev pub mcc_name : ℕ
+mcc_name = 7
 
-abbrev pub mncName : ℕ
-mncName = 8
+abbrev pub mnc_name : ℕ
+mnc_name = 8
 
-abbrev pub keyName : ℕ
-keyName = 9
+abbrev pub key_name : ℕ
+key_name = 9
 
 -- two texts have the same bytes
-unfoldable pub sameText : List ℕ → List ℕ → Bool
-sameText [] [] = true
-sameText [] (y ∷ t) = false
-sameText (x ∷ s) [] = false
-sameText (x ∷ s) (y ∷ t) = eqb x y && sameText s t
+unfoldable pub same_text : List ℕ → List ℕ → Bool
+same_text [] [] = true
+same_text [] (y ∷ t) = false
+same_text (x ∷ s) [] = false
+same_text (x ∷ s) (y ∷ t) = eqb x y && same_text s t
 
 -- the number of a name, from k on; the first after n where it is none of these
-unfoldable pub numberFrom : ℕ → ℕ → List ℕ → ℕ
-numberFrom k zero name = k
-numberFrom k (suc n) name = pick (sameText name (nameText k)) k (numberFrom (k + 1) n name)
+unfoldable pub number_from : ℕ → ℕ → List ℕ → ℕ
+number_from k zero name = k
+number_from k (suc n) name = pick (same_text name (name_text k)) k (number_from (k + 1) n name)
 
 -- the number of a name, or 10 where no record has it
-unfoldable pub nameNumber : List ℕ → ℕ
-nameNumber name = numberFrom 0 nameCount name
+unfoldable pub name_number : List ℕ → ℕ
+name_number name = number_from 0 name_count name
 
 -- the number of a line's name
-abbrev pub numberIn : List ℕ → ℕ
-numberIn line = nameNumber (nameIn line)
+abbrev pub number_in : List ℕ → ℕ
+number_in line = name_number (name_in line)
 
 -- the value under a name is a decimal number: not a word, nor the key
-unfoldable pub isDecimal : ℕ → Bool
-isDecimal k = not (eqb k algName) && (not (eqb k useName) && not (eqb k keyName))
+unfoldable pub is_decimal : ℕ → Bool
+is_decimal k = not (eqb k alg_name) && (not (eqb k use_name) && not (eqb k key_name))
 
 -- a form has a name: form 2 all ten, form 1 neither `form` nor the network codes
-unfoldable pub hasName : Bool → ℕ → Bool
-hasName two k = pick (eqb k formName) two (pick (eqb k mccName) two (pick (eqb k mncName) two (ltb k nameCount)))
+unfoldable pub has_name : Bool → ℕ → Bool
+has_name two k = pick (eqb k form_name) two (pick (eqb k mcc_name) two (pick (eqb k mnc_name) two (ltb k name_count)))

@@ -2,7 +2,7 @@
 ghost use Rattle.std.specs.Prelude.{◌≡◌};
 ghost use Rattle.lines.specs.Line.{up_to};
 ghost use Rattle.line_parts.specs.Line.{equals};
-ghost use Rattle.line_names.specs.Names.{nameText, sameText, nameNumber, numberIn, isDecimal, hasName};
+ghost use Rattle.line_names.specs.Names.{name_text, same_text, name_number, number_in, is_decimal, has_name};
 
 use line_parts::{front, name_in};
 use lines::index_of;
@@ -18,7 +18,7 @@ pub const KEY: usize = 9;
 
 // A name, and behind it `=` up to eight bytes.
 pub fn name_bytes(k: usize) -> [u8; 8]
-    ensures { up_to equals result ≡ nameText k }
+    ensures { up_to equals result ≡ name_text k }
 {
     match k {
         0 => *b"form====",
@@ -36,7 +36,7 @@ pub fn name_bytes(k: usize) -> [u8; 8]
 }
 
 fn same_text<'a>(s: &'a [u8], t: &'a [u8]) -> bool
-    ensures { result ≡ sameText s.now t.now }
+    ensures { result ≡ same_text s.now t.now }
 {
     if s.len() != t.len() {
         return false;
@@ -52,7 +52,7 @@ fn same_text<'a>(s: &'a [u8], t: &'a [u8]) -> bool
 }
 
 fn is_name(name: &[u8], k: usize) -> bool
-    ensures { result ≡ sameText name.now (nameText k) }
+    ensures { result ≡ same_text name.now (name_text k) }
 {
     let bytes = name_bytes(k);
     let n = index_of(&bytes, b'=');
@@ -61,7 +61,7 @@ fn is_name(name: &[u8], k: usize) -> bool
 
 // The number of a name, or 10 where no record has it.
 fn name_number(name: &[u8]) -> usize
-    ensures { result ≡ nameNumber name.now }
+    ensures { result ≡ name_number name.now }
 {
     let mut k = 0;
     while k < NAMES {
@@ -75,14 +75,14 @@ fn name_number(name: &[u8]) -> usize
 
 // The number of a line's name.
 pub fn number_in(line: &[u8]) -> usize
-    ensures { result ≡ numberIn line.now }
+    ensures { result ≡ number_in line.now }
 {
     name_number(name_in(line))
 }
 
 // Is the value under a name a decimal number?
 pub fn is_decimal(k: usize) -> bool
-    ensures { result ≡ isDecimal k }
+    ensures { result ≡ is_decimal k }
 {
     if k == ALG {
         return false;
@@ -95,7 +95,7 @@ pub fn is_decimal(k: usize) -> bool
 
 // Does a form have a name? `form` and the network codes only form 2 has.
 pub fn has_name(two: bool, k: usize) -> bool
-    ensures { result ≡ hasName two k }
+    ensures { result ≡ has_name two k }
 {
     match k {
         0 => two,

@@ -12,7 +12,7 @@ use borrow.Author.Tests.{eq-eqb, ne_eqb, ltb-true, lt-ltb, le-ltb}
 use Rattle.laws.specs.Choice.{pick}
 use Rattle.laws.proofs.Cases.{and_left}
 use Rattle.lines.specs.Line.{space}
-use Rattle.line_parts.specs.Line.{endsWith, leading, trailing, beforeEquals, afterEquals, isSpaced}
+use Rattle.line_parts.specs.Line.{ends_with, leading, trailing, before_equals, after_equals, is_spaced}
 
 -- from the place i on
 module _ (b : ℕ) (s : List ℕ) (i : ℕ) where
@@ -88,8 +88,8 @@ pub last-all : (b : ℕ) (s : List ℕ) → trailing b s ≡ trailing b (take (l
 last-all b s = let z : length s ≡ length s - 0 = omega arith in sym (ap (trailing b) (take-length s)) ∙ ap (λ (n : ℕ). trailing b (take n s)) z
 
 -- a text that ends with a byte is not empty
-pub ends_some : (b : ℕ) (s : List ℕ) → endsWith b s ≡ true → 1 ≤ length s
-unfolding endsWith
+pub ends_some : (b : ℕ) (s : List ℕ) → ends_with b s ≡ true → 1 ≤ length s
+unfolding ends_with
 ends_some b s e = ltb-true 0 (length s) (and_left _ _ e)
 
 -- nothing follows the end
@@ -100,10 +100,10 @@ past_end s n e =
     drop_of_length-le s h ∙ sym (drop_of_length-le s more)
 
 module _ (line : List ℕ) where
-  pub spaced-before : 0 < trailing space (beforeEquals line) → isSpaced line ≡ true
-  unfolding isSpaced
-  spaced-before h = rw (lt-ltb 0 (trailing space (beforeEquals line)) h)
+  pub spaced-before : 0 < trailing space (before_equals line) → is_spaced line ≡ true
+  unfolding is_spaced
+  spaced-before h = rw (lt-ltb 0 (trailing space (before_equals line)) h)
 
-  pub spaced-after : trailing space (beforeEquals line) ≤ 0 → isSpaced line ≡ ltb 0 (leading space (afterEquals line))
-  unfolding isSpaced
-  spaced-after h = rw (le-ltb 0 (trailing space (beforeEquals line)) h)
+  pub spaced-after : trailing space (before_equals line) ≤ 0 → is_spaced line ≡ ltb 0 (leading space (after_equals line))
+  unfolding is_spaced
+  spaced-after h = rw (le-ltb 0 (trailing space (before_equals line)) h)

@@ -1,7 +1,7 @@
 // The parts of a line of a damaged record sheet (document 02, [12]): its name and its value, without a CR at its end and without spaces
 // beside the `=`. A line comes without the LF that ends it.
 ghost use Rattle.std.specs.Prelude.{◌≡◌, ◌≤◌, length, take, drop};
-ghost use Rattle.line_parts.specs.Line.{endsWith, leading, trailing, bare, beforeEquals, afterEquals, hasEquals, nameIn, valueIn, isSpaced};
+ghost use Rattle.line_parts.specs.Line.{ends_with, leading, trailing, bare, before_equals, after_equals, has_equals, name_in, value_in, is_spaced};
 
 use lines::index_of;
 
@@ -13,7 +13,7 @@ const EQUALS: u8 = 61;
 
 // Is b the last byte of the text?
 pub fn ends_with(s: &[u8], b: u8) -> bool
-    ensures { result ≡ endsWith b s.now }
+    ensures { result ≡ ends_with b s.now }
 {
     let n = s.len();
     if n == 0 {
@@ -79,7 +79,7 @@ fn bare(line: &[u8]) -> &[u8]
 
 // What stands before the first `=`, or the whole line where there is none.
 fn before_equals(line: &[u8]) -> &[u8]
-    ensures { result.now ≡ beforeEquals line.now }
+    ensures { result.now ≡ before_equals line.now }
 {
     let whole = bare(line);
     let n = index_of(whole, EQUALS);
@@ -88,7 +88,7 @@ fn before_equals(line: &[u8]) -> &[u8]
 
 // What stands after the first `=`, or nothing.
 fn after_equals(line: &[u8]) -> &[u8]
-    ensures { result.now ≡ afterEquals line.now }
+    ensures { result.now ≡ after_equals line.now }
 {
     let whole = bare(line);
     let n = index_of(whole, EQUALS);
@@ -100,7 +100,7 @@ fn after_equals(line: &[u8]) -> &[u8]
 
 // Does a line have a `=`?
 fn has_equals(line: &[u8]) -> bool
-    ensures { result ≡ hasEquals line.now }
+    ensures { result ≡ has_equals line.now }
 {
     let whole = bare(line);
     index_of(whole, EQUALS) < whole.len()
@@ -108,7 +108,7 @@ fn has_equals(line: &[u8]) -> bool
 
 // The name of a line: nothing where it has no `=`.
 pub fn name_in(line: &[u8]) -> &[u8]
-    ensures { result.now ≡ nameIn line.now }
+    ensures { result.now ≡ name_in line.now }
 {
     let before = before_equals(line);
     if !has_equals(line) {
@@ -120,7 +120,7 @@ pub fn name_in(line: &[u8]) -> &[u8]
 
 // The value of a line.
 pub fn value_in(line: &[u8]) -> &[u8]
-    ensures { result.now ≡ valueIn line.now }
+    ensures { result.now ≡ value_in line.now }
 {
     let after = after_equals(line);
     let spaces = leading(after, SPACE);
@@ -129,7 +129,7 @@ pub fn value_in(line: &[u8]) -> &[u8]
 
 // Do spaces stand beside the `=`?
 pub fn is_spaced(line: &[u8]) -> bool
-    ensures { result ≡ isSpaced line.now }
+    ensures { result ≡ is_spaced line.now }
 {
     let before = trailing(before_equals(line), SPACE);
     let after = leading(after_equals(line), SPACE);

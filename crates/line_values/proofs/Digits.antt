@@ -12,20 +12,20 @@ use borrow.Author.Tests.{eq-eqb, ne_eqb, eqb-true}
 use Rattle.laws.specs.Choice.{pick}
 use Rattle.laws.proofs.Cases.{eq-or-ne}
 use Rattle.writing.specs.Text.{lf, digits}
-use Rattle.forms.specs.Form.{Outcome, found, wrong, readAt}
-use Rattle.forms.specs.Decimals.{mayBegin, mayFollow, after, decimal}
+use Rattle.forms.specs.Form.{Outcome, found, wrong, read_at}
+use Rattle.forms.specs.Decimals.{may_begin, may_follow, after, decimal}
 use Rattle.forms.proofs.Forms.{Means, reads, spelt}
 use Rattle.forms.proofs.Decimals.{decimal-means}
 use Rattle.reading.proofs.Steps.{step-no, step-yes, after-lf, after-no, after-digit}
 use Rattle.line_values.specs.declared.number.Number.{Number}
-use Rattle.line_values.specs.Parts.{largest, goodNumber, noNumber, wholeNumber, number_of}
+use Rattle.line_values.specs.Parts.{largest, good_number, no_number, whole_number, number_of}
 
 abbrev ended : List ℕ → List ℕ
 ended s = s ++ (lf ∷ [])
 
 -- what is answered after digits of the value n, from the place i on
-abbrev pub numberFrom : ℕ → List ℕ → ℕ → Number
-numberFrom n s i = wholeNumber (length s + 1) (readAt (after largest n) (ended s) i)
+abbrev pub number_from : ℕ → List ℕ → ℕ → Number
+number_from n s i = whole_number (length s + 1) (read_at (after largest n) (ended s) i)
 
 module _ (s : List ℕ) (i : ℕ) (h : i < length s) where
   here : i < length (ended s)
@@ -34,67 +34,67 @@ module _ (s : List ℕ) (i : ℕ) (h : i < length s) where
   byte : get_or (ended s) i 0 ≡ get_or s i 0
   byte = get_or-append s (lf ∷ []) 0 i h
 
-  pub number-no : (n : ℕ) → mayFollow largest n (get_or s i 0) ≡ false → numberFrom n s i ≡ noNumber
+  pub number-no : (n : ℕ) → may_follow largest n (get_or s i 0) ≡ false → number_from n s i ≡ no_number
   number-no n e =
       ⊎_elim
-      (λ z. ap (wholeNumber (length s + 1)) (after-lf largest n (ended s) i here z) ∙ rw (ne_eqb (i + 1) (length s + 1) (λ q. omega arith)))
-      (λ z. ap (wholeNumber (length s + 1)) (after-no largest n (ended s) i here z (ap (mayFollow largest n) byte ∙ e)))
+      (λ z. ap (whole_number (length s + 1)) (after-lf largest n (ended s) i here z) ∙ rw (ne_eqb (i + 1) (length s + 1) (λ q. omega arith)))
+      (λ z. ap (whole_number (length s + 1)) (after-no largest n (ended s) i here z (ap (may_follow largest n) byte ∙ e)))
       (eq-or-ne (get_or (ended s) i 0) lf)
 
-  pub number-digit : (n : ℕ) → mayFollow largest n (get_or s i 0) ≡ true → numberFrom n s i ≡ numberFrom (n * 10 + (get_or s i 0 - 48)) s (i + 1)
+  pub number-digit : (n : ℕ) → may_follow largest n (get_or s i 0) ≡ true → number_from n s i ≡ number_from (n * 10 + (get_or s i 0 - 48)) s (i + 1)
   number-digit n e =
-      ap (wholeNumber (length s + 1))
-      (after-digit largest n (ended s) i here (ap (mayFollow largest n) byte ∙ e)
-      ∙ ap (λ (b : ℕ). readAt (after largest (n * 10 + (b - 48))) (ended s) (i + 1)) byte)
+      ap (whole_number (length s + 1))
+      (after-digit largest n (ended s) i here (ap (may_follow largest n) byte ∙ e)
+      ∙ ap (λ (b : ℕ). read_at (after largest (n * 10 + (b - 48))) (ended s) (i + 1)) byte)
 
-pub number-end : (n : ℕ) (s : List ℕ) (i : ℕ) → i ≡ length s → numberFrom n s i ≡ goodNumber n
+pub number-end : (n : ℕ) (s : List ℕ) (i : ℕ) → i ≡ length s → number_from n s i ≡ good_number n
 number-end n s i e =
     let z : get_or (ended s) i 0 ≡ lf = ap (λ (k : ℕ). get_or (ended s) k 0) e ∙ get_or-append_seam s lf [] 0 in
-    ap (wholeNumber (length s + 1)) (after-lf largest n (ended s) i (omega (arith, length-append s (lf ∷ []))) z)
+    ap (whole_number (length s + 1)) (after-lf largest n (ended s) i (omega (arith, length-append s (lf ∷ []))) z)
     ∙ rw (eq-eqb (i + 1) (length s + 1) (omega arith))
 
 -- the first digit
 
-pub first-none : (s : List ℕ) → length s ≡ 0 → number_of s ≡ noNumber
-unfolding number_of decimal readAt mayBegin
+pub first-none : (s : List ℕ) → length s ≡ 0 → number_of s ≡ no_number
+unfolding number_of decimal read_at may_begin
 first-none [] h = refl
 first-none (b ∷ s) h = absurd (omega arith)
 
 module _ (s : List ℕ) (h : 0 < length s) where
-  pub first-no : mayBegin 0 largest (get_or s 0 0) ≡ false → number_of s ≡ noNumber
+  pub first-no : may_begin 0 largest (get_or s 0 0) ≡ false → number_of s ≡ no_number
   unfolding number_of decimal
-  first-no e = ap (wholeNumber (length s + 1)) (step-no _ _ (ended s) 0 (here s 0 h) (ap (mayBegin 0 largest) (byte s 0 h) ∙ e))
+  first-no e = ap (whole_number (length s + 1)) (step-no _ _ (ended s) 0 (here s 0 h) (ap (may_begin 0 largest) (byte s 0 h) ∙ e))
 
-  pub first-yes : mayBegin 0 largest (get_or s 0 0) ≡ true → number_of s ≡ numberFrom (get_or s 0 0 - 48) s 1
+  pub first-yes : may_begin 0 largest (get_or s 0 0) ≡ true → number_of s ≡ number_from (get_or s 0 0 - 48) s 1
   unfolding number_of decimal
   first-yes e =
-      ap (wholeNumber (length s + 1))
-      (step-yes _ _ (ended s) 0 (here s 0 h) (ap (mayBegin 0 largest) (byte s 0 h) ∙ e)
-      ∙ ap (λ (b : ℕ). readAt (after largest (b - 48)) (ended s) 1) (byte s 0 h))
+      ap (whole_number (length s + 1))
+      (step-yes _ _ (ended s) 0 (here s 0 h) (ap (may_begin 0 largest) (byte s 0 h) ∙ e)
+      ∙ ap (λ (b : ℕ). read_at (after largest (b - 48)) (ended s) 1) (byte s 0 h))
 
 -- the digits of a number of 64 bits are read as that number, and no other text as a number
 
 number-means : Means (decimal 0 largest) (λ v. (0 ≤ v) × (v ≤ largest)) (λ v. digits v ++ (lf ∷ []))
 number-means = decimal-means 0 largest (omega arith) (λ _. omega arith)
 
-pub number_read : (n : ℕ) → n ≤ largest → number_of (digits n) ≡ goodNumber n
+pub number_read : (n : ℕ) → n ≤ largest → number_of (digits n) ≡ good_number n
 unfolding number_of
 number_read n h =
     let t = ended (digits n) in
-    ap (wholeNumber (length (digits n) + 1)) (reads (decimal 0 largest) t 0 n t [] (number-means.spells n (omega arith, h)) (sym (append-nil t)))
+    ap (whole_number (length (digits n) + 1)) (reads (decimal 0 largest) t 0 n t [] (number-means.spells n (omega arith, h)) (sym (append-nil t)))
     ∙ rw (eq-eqb (0 + length t) (length (digits n) + 1) (omega (arith, length-append (digits n) (lf ∷ []))))
 
 pub number-text : (s : List ℕ) → (number_of s).good ≡ true → (s ≡ digits (number_of s).value) × ((number_of s).value ≤ largest)
 unfolding number_of
-number-text s e = go (readAt (decimal 0 largest) (ended s) 0) refl e
+number-text s e = go (read_at (decimal 0 largest) (ended s) 0) refl e
   where
-    go : (o : Outcome ℕ) → readAt (decimal 0 largest) (ended s) 0 ≡ o → (wholeNumber (length s + 1) o).good ≡ true
-        → (s ≡ digits (wholeNumber (length s + 1) o).value) × ((wholeNumber (length s + 1) o).value ≤ largest)
+    go : (o : Outcome ℕ) → read_at (decimal 0 largest) (ended s) 0 ≡ o → (whole_number (length s + 1) o).good ≡ true
+        → (s ≡ digits (whole_number (length s + 1) o).value) × ((whole_number (length s + 1) o).value ≤ largest)
     go (wrong p) r g = absurd (false≢true g)
     go (found v p) r g = whole (eqb p (length s + 1)) refl g
       where
-        whole : (t : Bool) → eqb p (length s + 1) ≡ t → (pick t (goodNumber v) noNumber).good ≡ true
-            → (s ≡ digits (pick t (goodNumber v) noNumber).value) × ((pick t (goodNumber v) noNumber).value ≤ largest)
+        whole : (t : Bool) → eqb p (length s + 1) ≡ t → (pick t (good_number v) no_number).good ≡ true
+            → (s ≡ digits (pick t (good_number v) no_number).value) × ((pick t (good_number v) no_number).value ≤ largest)
         whole false q g = absurd (false≢true g)
         whole true q g =
             let t = spelt (decimal 0 largest) (ended s) 0 v p r in

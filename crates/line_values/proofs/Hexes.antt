@@ -11,48 +11,48 @@ use lib.Seq.{drop-cons}
 use borrow.Author.Tests.{eqb-true}
 use Rattle.laws.proofs.Cases.{and_left, and_right}
 use Rattle.laws.proofs.Lists.{length-tabulate}
-use Rattle.forms.specs.Hexes.{isHex, hexValue, hexOr}
+use Rattle.forms.specs.Hexes.{is_hex, hex_value, hex_or}
 use Rattle.forms.proofs.Hexes.{value-small}
-use Rattle.line_values.specs.Parts.{allHex, are_bytes, bytes_of}
+use Rattle.line_values.specs.Parts.{all_hex, are_bytes, bytes_of}
 
 -- the digits from the place i on
 module _ (s : List ℕ) (i : ℕ) where
-  pub all_end : length s ≤ i → allHex (drop i s) ≡ true
-  unfolding allHex
+  pub all_end : length s ≤ i → all_hex (drop i s) ≡ true
+  unfolding all_hex
   all_end h = rw (drop_of_length-le s h)
 
-  pub all-no : i < length s → isHex (get_or s i 0) ≡ false → allHex (drop i s) ≡ false
-  unfolding allHex
+  pub all-no : i < length s → is_hex (get_or s i 0) ≡ false → all_hex (drop i s) ≡ false
+  unfolding all_hex
   all-no h e = rw (drop-cons s i 0 h, e)
 
-  pub all_yes : i < length s → isHex (get_or s i 0) ≡ true → allHex (drop i s) ≡ allHex (drop (i + 1) s)
-  unfolding allHex
+  pub all_yes : i < length s → is_hex (get_or s i 0) ≡ true → all_hex (drop i s) ≡ all_hex (drop (i + 1) s)
+  unfolding all_hex
   all_yes h e = rw (add-one i, drop-cons s i 0 h, e)
 
-hex-at : (s : List ℕ) (i : ℕ) → allHex s ≡ true → i < length s → isHex (get_or s i 0) ≡ true
-unfolding allHex
+hex-at : (s : List ℕ) (i : ℕ) → all_hex s ≡ true → i < length s → is_hex (get_or s i 0) ≡ true
+unfolding all_hex
 hex-at [] i e h = absurd (omega arith)
-hex-at (c ∷ s) zero e h = and_left (isHex c) (allHex s) e
-hex-at (c ∷ s) (suc i) e h = hex-at s i (and_right (isHex c) (allHex s) e) (omega arith)
+hex-at (c ∷ s) zero e h = and_left (is_hex c) (all_hex s) e
+hex-at (c ∷ s) (suc i) e h = hex-at s i (and_right (is_hex c) (all_hex s) e) (omega arith)
 
 -- the value of a digit
-pub value-is : (c v : ℕ) → v ≡ hexOr c → isHex c ≡ true → (v ≡ hexValue c) × (v < 16)
-unfolding hexOr
+pub value-is : (c v : ℕ) → v ≡ hex_or c → is_hex c ≡ true → (v ≡ hex_value c) × (v < 16)
+unfolding hex_or
 value-is c v e h =
-    let z : v ≡ hexValue c = e ∙ rw h in
+    let z : v ≡ hex_value c = e ∙ rw h in
     (z, omega (arith, value-small c h))
 
 -- a text of bytes
 module _ (s : List ℕ) (e : are_bytes s ≡ true) where
-  some : eqb (length s % 2) 0 && allHex s ≡ true
+  some : eqb (length s % 2) 0 && all_hex s ≡ true
   unfolding are_bytes
   some = and_right (not (eqb (length s) 0)) _ e
 
   pub even : length s ≡ 2 * (length s / 2)
-  even = omega (arith, eqb-true (length s % 2) 0 (and_left (eqb (length s % 2) 0) (allHex s) some))
+  even = omega (arith, eqb-true (length s % 2) 0 (and_left (eqb (length s % 2) 0) (all_hex s) some))
 
-  pub digit_at : (i : ℕ) → i < length s → isHex (get_or s i 0) ≡ true
-  digit_at i h = hex-at s i (and_right (eqb (length s % 2) 0) (allHex s) some) h
+  pub digit_at : (i : ℕ) → i < length s → is_hex (get_or s i 0) ≡ true
+  digit_at i h = hex-at s i (and_right (eqb (length s % 2) 0) (all_hex s) some) h
 
 pub length-bytes : (s : List ℕ) → length (bytes_of s) ≡ length s / 2
 unfolding bytes_of

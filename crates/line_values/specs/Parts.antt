@@ -4,38 +4,38 @@ use Rattle.std.specs.Prelude.{Bool, true, false, not, ◌&&◌, List, [], ◌∷
 use Rattle.laws.specs.Choice.{pick}
 use Rattle.laws.specs.Lists.{tabulate}
 use Rattle.writing.specs.Text.{lf}
-use Rattle.forms.specs.Form.{Outcome, found, wrong, readAt}
+use Rattle.forms.specs.Form.{Outcome, found, wrong, read_at}
 use Rattle.forms.specs.Decimals.{decimal}
-use Rattle.forms.specs.Hexes.{isHex, hexValue}
+use Rattle.forms.specs.Hexes.{is_hex, hex_value}
 use Rattle.line_values.specs.declared.number.Number.{Number}
 
 -- the largest number of 64 bits
 abbrev pub largest : ℕ
 largest = 18446744073709551615
 
-abbrev pub goodNumber : ℕ → Number
-goodNumber n = record { good = true; value = n }
+abbrev pub good_number : ℕ → Number
+good_number n = record { good = true; value = n }
 
-abbrev pub noNumber : Number
-noNumber = record { good = false; value = 0 }
+abbrev pub no_number : Number
+no_number = record { good = false; value = 0 }
 
 -- the number that was read, if that took so many bytes
-abbrev pub wholeNumber : ℕ → Outcome ℕ → Number
-wholeNumber size (found n place) = pick (eqb place size) (goodNumber n) noNumber
-wholeNumber size (wrong place) = noNumber
+abbrev pub whole_number : ℕ → Outcome ℕ → Number
+whole_number size (found n place) = pick (eqb place size) (good_number n) no_number
+whole_number size (wrong place) = no_number
 
 -- the number that a whole text is: the text and LF, read as the numbers of a record are
 unfoldable pub number_of : List ℕ → Number
-number_of s = wholeNumber (length s + 1) (readAt (decimal 0 largest) (s ++ (lf ∷ [])) 0)
+number_of s = whole_number (length s + 1) (read_at (decimal 0 largest) (s ++ (lf ∷ [])) 0)
 
-unfoldable pub allHex : List ℕ → Bool
-allHex [] = true
-allHex (c ∷ s) = isHex c && allHex s
+unfoldable pub all_hex : List ℕ → Bool
+all_hex [] = true
+all_hex (c ∷ s) = is_hex c && all_hex s
 
 -- one byte or more
 unfoldable pub are_bytes : List ℕ → Bool
-are_bytes s = not (eqb (length s) 0) && (eqb (length s % 2) 0 && allHex s)
+are_bytes s = not (eqb (length s) 0) && (eqb (length s % 2) 0 && all_hex s)
 
 -- byte i is that of the digits 2 i and 2 i + 1
 unfoldable pub bytes_of : List ℕ → List ℕ
-bytes_of s = tabulate (λ i. hexValue (get_or s (2 * i) 0) * 16 + hexValue (get_or s (2 * i + 1) 0)) 0 (length s / 2)
+bytes_of s = tabulate (λ i. hex_value (get_or s (2 * i) 0) * 16 + hex_value (get_or s (2 * i + 1) 0)) 0 (length s / 2)

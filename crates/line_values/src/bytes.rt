@@ -1,12 +1,12 @@
 // Bytes by two lower-case hex digits each.
 ghost use Rattle.std.specs.Prelude.{true, ◌≡◌, ◌+◌, ◌*◌, ◌/◌, length};
-ghost use Rattle.forms.specs.Hexes.{isHex, hexValue};
-ghost use Rattle.line_values.specs.Parts.{allHex, are_bytes, bytes_of};
+ghost use Rattle.forms.specs.Hexes.{is_hex, hex_value};
+ghost use Rattle.line_values.specs.Parts.{all_hex, are_bytes, bytes_of};
 
 use hex_reading::hex_value;
 
 fn all_hex(s: &[u8]) -> bool
-    ensures { result ≡ allHex s.now }
+    ensures { result ≡ all_hex s.now }
 {
     let mut i = 0;
     while i < s.len() {
@@ -33,8 +33,8 @@ pub fn are_bytes(s: &[u8]) -> bool
 
 // The byte of two digits.
 fn byte_of(high: u8, low: u8) -> u8
-    requires { (isHex high ≡ true) × (isHex low ≡ true) }
-    ensures { result ≡ hexValue high * 16 + hexValue low }
+    requires { (is_hex high ≡ true) × (is_hex low ≡ true) }
+    ensures { result ≡ hex_value high * 16 + hex_value low }
 {
     (hex_value(high) * 16 + hex_value(low)) as u8
 }

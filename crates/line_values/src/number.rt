@@ -1,6 +1,6 @@
 // Decimal numbers of 64 bits without leading zeros.
 ghost use Rattle.std.specs.Prelude.{◌≡◌};
-ghost use Rattle.line_values.specs.Parts.{goodNumber, noNumber, number_of};
+ghost use Rattle.line_values.specs.Parts.{good_number, no_number, number_of};
 
 use reading::{may_begin, may_follow};
 
@@ -14,13 +14,13 @@ pub struct Number {
 }
 
 fn good_number(value: u64) -> Number
-    ensures { result ≡ goodNumber value }
+    ensures { result ≡ good_number value }
 {
     Number { good: true, value }
 }
 
 fn no_number() -> Number
-    ensures { result ≡ noNumber }
+    ensures { result ≡ no_number }
 {
     Number {
         good: false,

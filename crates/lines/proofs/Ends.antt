@@ -14,25 +14,25 @@ use lib.Seq.{take-suc}
 use borrow.Author.Tests.{eqb-true, eq-eqb, ne_eqb}
 use Rattle.laws.specs.Choice.{pick}
 use Rattle.laws.proofs.Cases.{lt-or-le, pick-cases}
-use Rattle.writing.specs.Text.{ascii, lf, digits, hexDigit, hexText, lineText}
+use Rattle.writing.specs.Text.{ascii, lf, digits, hex_digit, hex_text, line_text}
 use Rattle.writing.proofs.Digits.{digits-one, digits-ten}
-use Rattle.lines.specs.Line.{lineEnds, line_of, columnAfter, columnOf, throughEnds, placeAt}
+use Rattle.lines.specs.Line.{line_ends, line_of, column_after, column_of, through_ends, place_at}
 
-pub ends-append : (s t : List ℕ) → lineEnds (s ++ t) ≡ lineEnds s + lineEnds t
-unfolding lineEnds
+pub ends-append : (s t : List ℕ) → line_ends (s ++ t) ≡ line_ends s + line_ends t
+unfolding line_ends
 ends-append [] t = omega arith
 ends-append (b ∷ s) t = let e = ends-append s t in omega arith
 
 pub line_first : (s : List ℕ) → line_of s 0 ≡ 1
-unfolding line_of lineEnds
+unfolding line_of line_ends
 line_first s = refl
 
 module _ (s : List ℕ) (i : ℕ) (h : i < length s) where
   line-more : line_of s (i + 1) ≡ line_of s i + pick (eqb (get_or s i 0) lf) 1 0
-  unfolding line_of lineEnds
+  unfolding line_of line_ends
   line-more =
-      let e : lineEnds (take (i + 1) s) ≡ lineEnds (take i s) + (pick (eqb (get_or s i 0) lf) 1 0 + 0) =
-      ap (λ (n : ℕ). lineEnds (take n s)) (add-one i) ∙ ap lineEnds (take-suc s i 0 h) ∙ ends-append (take i s) (get_or s i 0 ∷ []) in
+      let e : line_ends (take (i + 1) s) ≡ line_ends (take i s) + (pick (eqb (get_or s i 0) lf) 1 0 + 0) =
+      ap (λ (n : ℕ). line_ends (take n s)) (add-one i) ∙ ap line_ends (take-suc s i 0 h) ∙ ends-append (take i s) (get_or s i 0 ∷ []) in
       omega arith
 
   pub line-next : get_or s i 0 ≡ lf → line_of s (i + 1) ≡ line_of s i + 1
@@ -43,37 +43,37 @@ module _ (s : List ℕ) (i : ℕ) (h : i < length s) where
 
 -- columns
 
-column-append : (c : ℕ) (s t : List ℕ) → columnAfter c (s ++ t) ≡ columnAfter (columnAfter c s) t
-unfolding columnAfter
+column-append : (c : ℕ) (s t : List ℕ) → column_after c (s ++ t) ≡ column_after (column_after c s) t
+unfolding column_after
 column-append c [] t = refl
 column-append c (b ∷ s) t = column-append (pick (eqb b lf) 1 (c + 1)) s t
 
-column-some : (c : ℕ) (s : List ℕ) → 1 ≤ c → 1 ≤ columnAfter c s
-unfolding columnAfter
+column-some : (c : ℕ) (s : List ℕ) → 1 ≤ c → 1 ≤ column_after c s
+unfolding column_after
 column-some c [] h = h
 column-some c (b ∷ s) h =
     column-some (pick (eqb b lf) 1 (c + 1)) s (pick-cases (λ (n : ℕ). 1 ≤ n) (eqb b lf) (λ _. omega arith) (λ _. omega arith))
 
-pub column-first : (s : List ℕ) → columnOf s 0 ≡ 1
-unfolding columnOf columnAfter
+pub column-first : (s : List ℕ) → column_of s 0 ≡ 1
+unfolding column_of column_after
 column-first s = refl
 
 module _ (s : List ℕ) (i : ℕ) (h : i < length s) where
-  column-more : columnOf s (i + 1) ≡ pick (eqb (get_or s i 0) lf) 1 (columnOf s i + 1)
-  unfolding columnOf columnAfter
+  column-more : column_of s (i + 1) ≡ pick (eqb (get_or s i 0) lf) 1 (column_of s i + 1)
+  unfolding column_of column_after
   column-more =
-      ap (λ (n : ℕ). columnAfter 1 (take n s)) (add-one i) ∙ ap (columnAfter 1) (take-suc s i 0 h) ∙ column-append 1 (take i s) (get_or s i 0 ∷ [])
+      ap (λ (n : ℕ). column_after 1 (take n s)) (add-one i) ∙ ap (column_after 1) (take-suc s i 0 h) ∙ column-append 1 (take i s) (get_or s i 0 ∷ [])
 
-  pub column-next : get_or s i 0 ≡ lf → columnOf s (i + 1) ≡ 1
-  column-next e = column-more ∙ ap (λ t. pick t 1 (columnOf s i + 1)) (eq-eqb (get_or s i 0) lf e)
+  pub column-next : get_or s i 0 ≡ lf → column_of s (i + 1) ≡ 1
+  column-next e = column-more ∙ ap (λ t. pick t 1 (column_of s i + 1)) (eq-eqb (get_or s i 0) lf e)
 
-  pub column-same : (get_or s i 0 ≡ lf → ⊥) → columnOf s (i + 1) ≡ columnOf s i + 1
-  column-same n = column-more ∙ ap (λ t. pick t 1 (columnOf s i + 1)) (ne_eqb (get_or s i 0) lf n)
+  pub column-same : (get_or s i 0 ≡ lf → ⊥) → column_of s (i + 1) ≡ column_of s i + 1
+  column-same n = column-more ∙ ap (λ t. pick t 1 (column_of s i + 1)) (ne_eqb (get_or s i 0) lf n)
 
 -- line and column name a place
 
-no-ends : (s : List ℕ) → throughEnds 0 s ≡ 0
-unfolding throughEnds
+no-ends : (s : List ℕ) → through_ends 0 s ≡ 0
+unfolding through_ends
 no-ends [] = refl
 no-ends (b ∷ s) = refl
 
@@ -83,53 +83,53 @@ one-or-one false = refl
 
 -- a text whose first byte stands at the column c: what is read of it after its last line end, and what before
 named : (s : List ℕ) (p c : ℕ) → p ≤ length s
-    → throughEnds (lineEnds (take p s)) s + columnAfter c (take p s) ≡ p + pick (eqb (lineEnds (take p s)) 0) c 1
-unfolding throughEnds columnAfter lineEnds
+    → through_ends (line_ends (take p s)) s + column_after c (take p s) ≡ p + pick (eqb (line_ends (take p s)) 0) c 1
+unfolding through_ends column_after line_ends
 named [] zero c h = refl
 named (b ∷ s) zero c h = refl
 named [] (suc p) c h = absurd (omega arith)
-named (b ∷ s) (suc p) c h = go (eqb b lf) (lineEnds (take p s)) (named s p 1 (omega arith)) (named s p (c + 1) (omega arith))
+named (b ∷ s) (suc p) c h = go (eqb b lf) (line_ends (take p s)) (named s p 1 (omega arith)) (named s p (c + 1) (omega arith))
   where
-    inside : (t : Bool) (e : ℕ) → eqb e 0 ≡ t → throughEnds e s + columnAfter (c + 1) (take p s) ≡ p + pick t (c + 1) 1
-        → pick t 0 (suc (throughEnds e s)) + columnAfter (c + 1) (take p s) ≡ suc p + pick t c 1
-    inside true e z q = omega (arith, q, ap (λ (n : ℕ). throughEnds n s) (eqb-true e 0 z) ∙ no-ends s)
+    inside : (t : Bool) (e : ℕ) → eqb e 0 ≡ t → through_ends e s + column_after (c + 1) (take p s) ≡ p + pick t (c + 1) 1
+        → pick t 0 (suc (through_ends e s)) + column_after (c + 1) (take p s) ≡ suc p + pick t c 1
+    inside true e z q = omega (arith, q, ap (λ (n : ℕ). through_ends n s) (eqb-true e 0 z) ∙ no-ends s)
     inside false e z q = omega (arith, q)
 
     go : (t : Bool) (e : ℕ)
-        → throughEnds e s + columnAfter 1 (take p s) ≡ p + pick (eqb e 0) 1 1
-        → throughEnds e s + columnAfter (c + 1) (take p s) ≡ p + pick (eqb e 0) (c + 1) 1
-        → pick (eqb (pick t 1 0 + e) 0) 0 (suc (throughEnds (pick t (pick t 1 0 + e - 1) (pick t 1 0 + e)) s)) + columnAfter (pick t 1 (c + 1)) (take p s)
+        → through_ends e s + column_after 1 (take p s) ≡ p + pick (eqb e 0) 1 1
+        → through_ends e s + column_after (c + 1) (take p s) ≡ p + pick (eqb e 0) (c + 1) 1
+        → pick (eqb (pick t 1 0 + e) 0) 0 (suc (through_ends (pick t (pick t 1 0 + e - 1) (pick t 1 0 + e)) s)) + column_after (pick t 1 (c + 1)) (take p s)
         ≡ suc p + pick (eqb (pick t 1 0 + e) 0) c 1
     go true e r q =
         let z : 1 + e - 1 ≡ e = omega arith in
         rw (ne_eqb (1 + e) 0 (λ z. omega arith))
-        (ap (λ (n : ℕ). suc (throughEnds n s) + columnAfter 1 (take p s)) z ∙ omega (arith, r ∙ ap (p +◌) (one-or-one (eqb e 0))))
+        (ap (λ (n : ℕ). suc (through_ends n s) + column_after 1 (take p s)) z ∙ omega (arith, r ∙ ap (p +◌) (one-or-one (eqb e 0))))
     go false e r q =
         let z : 0 + e ≡ e = omega arith in
-        subst (λ (n : ℕ). pick (eqb n 0) 0 (suc (throughEnds n s)) + columnAfter (c + 1) (take p s) ≡ suc p + pick (eqb n 0) c 1) (sym z)
+        subst (λ (n : ℕ). pick (eqb n 0) 0 (suc (through_ends n s)) + column_after (c + 1) (take p s) ≡ suc p + pick (eqb n 0) c 1) (sym z)
         (inside (eqb e 0) e refl q)
 
-pub place-named : (s : List ℕ) (p : ℕ) → p ≤ length s → placeAt s (line_of s p) (columnOf s p) ≡ p
-unfolding placeAt line_of columnOf
+pub place-named : (s : List ℕ) (p : ℕ) → p ≤ length s → place_at s (line_of s p) (column_of s p) ≡ p
+unfolding place_at line_of column_of
 place-named s p h =
-    let z : 1 + lineEnds (take p s) - 1 ≡ lineEnds (take p s) = omega arith in
-    ap (λ (n : ℕ). throughEnds n s + (columnAfter 1 (take p s) - 1)) z
-    ∙ omega (arith, named s p 1 h ∙ ap (p +◌) (one-or-one (eqb (lineEnds (take p s)) 0)), column-some 1 (take p s) (omega arith))
+    let z : 1 + line_ends (take p s) - 1 ≡ line_ends (take p s) = omega arith in
+    ap (λ (n : ℕ). through_ends n s + (column_after 1 (take p s) - 1)) z
+    ∙ omega (arith, named s p 1 h ∙ ap (p +◌) (one-or-one (eqb (line_ends (take p s)) 0)), column-some 1 (take p s) (omega arith))
 
-pub one-named : (s : List ℕ) (p q : ℕ) → p ≤ length s → q ≤ length s → line_of s p ≡ line_of s q → columnOf s p ≡ columnOf s q → p ≡ q
-one-named s p q h g e f = sym (place-named s p h) ∙ (λ i. placeAt s (e i) (f i)) ∙ place-named s q g
+pub one-named : (s : List ℕ) (p q : ℕ) → p ≤ length s → q ≤ length s → line_of s p ≡ line_of s q → column_of s p ≡ column_of s q → p ≡ q
+one-named s p q h g e f = sym (place-named s p h) ∙ (λ i. place_at s (e i) (f i)) ∙ place-named s q g
 
 -- no digit is a line end
 
-other_byte : (b : ℕ) (s : List ℕ) → 48 ≤ b → lineEnds (b ∷ s) ≡ lineEnds s
-unfolding lineEnds
-other_byte b s h = rw (ne_eqb b lf (λ e. let z : b ≡ 10 = e in omega arith)) (zero-add (lineEnds s))
+other_byte : (b : ℕ) (s : List ℕ) → 48 ≤ b → line_ends (b ∷ s) ≡ line_ends s
+unfolding line_ends
+other_byte b s h = rw (ne_eqb b lf (λ e. let z : b ≡ 10 = e in omega arith)) (zero-add (line_ends s))
 
-one_byte : (b : ℕ) → 48 ≤ b → lineEnds (b ∷ []) ≡ 0
-unfolding lineEnds
+one_byte : (b : ℕ) → 48 ≤ b → line_ends (b ∷ []) ≡ 0
+unfolding line_ends
 one_byte b h = other_byte b [] h
 
-no-end-digits : (k n : ℕ) → n ≤ k → lineEnds (digits n) ≡ 0
+no-end-digits : (k n : ℕ) → n ≤ k → line_ends (digits n) ≡ 0
 no-end-digits zero n h = rw (digits-one n (omega arith)) (one_byte (48 + n) (omega arith))
 no-end-digits (suc k) n h =
     ⊎_elim (λ l. rw (digits-one n l) (one_byte (48 + n) (omega arith)))
@@ -139,31 +139,31 @@ no-end-digits (suc k) n h =
     ∙ (λ i. no-end-digits k (n / 10) (omega arith) i + one_byte (48 + n % 10) (omega arith) i)))
     (lt-or-le n 10)
 
-pub no-end-number : (n : ℕ) → lineEnds (digits n) ≡ 0
+pub no-end-number : (n : ℕ) → line_ends (digits n) ≡ 0
 no-end-number n = no-end-digits n n (omega arith)
 
-digit-byte : (d : ℕ) → 48 ≤ hexDigit d
-unfolding hexDigit
+digit-byte : (d : ℕ) → 48 ≤ hex_digit d
+unfolding hex_digit
 digit-byte d = go (ltb d 10)
   where
     go : (t : Bool) → 48 ≤ pick t (48 + d) (87 + d)
     go true = omega arith
     go false = omega arith
 
-pub no-end-hex : (l : List ℕ) → lineEnds (hexText l) ≡ 0
-unfolding hexText lineEnds
+pub no-end-hex : (l : List ℕ) → line_ends (hex_text l) ≡ 0
+unfolding hex_text line_ends
 no-end-hex [] = refl
 no-end-hex (b ∷ l) =
-    other_byte (hexDigit (b / 16)) (hexDigit (b % 16) ∷ hexText l) (digit-byte (b / 16))
-    ∙ other_byte (hexDigit (b % 16)) (hexText l) (digit-byte (b % 16))
+    other_byte (hex_digit (b / 16)) (hex_digit (b % 16) ∷ hex_text l) (digit-byte (b / 16))
+    ∙ other_byte (hex_digit (b % 16)) (hex_text l) (digit-byte (b % 16))
     ∙ no-end-hex l
 
-pub one_line : (name : String) (value rest : List ℕ) → lineEnds (ascii name) ≡ 0 → lineEnds value ≡ 0 → lineEnds (lineText name value ++ rest) ≡ 1 + lineEnds rest
-unfolding lineEnds
+pub one_line : (name : String) (value rest : List ℕ) → line_ends (ascii name) ≡ 0 → line_ends value ≡ 0 → line_ends (line_text name value ++ rest) ≡ 1 + line_ends rest
+unfolding line_ends
 one_line name value rest n v =
     omega (
       arith,
-      ends-append (lineText name value) rest,
+      ends-append (line_text name value) rest,
       ends-append (ascii name) (value ++ (lf ∷ [])),
       ends-append value (lf ∷ []),
     )
@@ -177,9 +177,9 @@ pub ended-after : (s : List ℕ) {t : List ℕ} → Ended t → Ended (s ++ t)
 ended-after s e = record { body = s ++ e.body; is = ap (λ (t : List ℕ). s ++ t) e.is ∙ sym (append_assoc s e.body (lf ∷ [])) }
 
 -- what is left of such a text has an end of line
-pub end-left : (front more body : List ℕ) → body ++ (lf ∷ []) ≡ front ++ more → (more ≡ [] → ⊥) → 1 ≤ lineEnds more
-unfolding lineEnds
-end-left [] more body e h = omega (arith, ap lineEnds (sym e) ∙ ends-append body (lf ∷ []))
+pub end-left : (front more body : List ℕ) → body ++ (lf ∷ []) ≡ front ++ more → (more ≡ [] → ⊥) → 1 ≤ line_ends more
+unfolding line_ends
+end-left [] more body e h = omega (arith, ap line_ends (sym e) ∙ ends-append body (lf ∷ []))
 end-left (x ∷ front) [] [] e h = absurd (h refl)
 end-left (x ∷ front) (b ∷ more) [] e h = absurd (omega (arith, ap length e, length-append front (b ∷ more)))
 end-left (x ∷ front) more (y ∷ body) e h = end-left front more body (tail-eq_of_cons-eq e) h

@@ -10,46 +10,46 @@ use lib.ListN.{length, get_or, take, drop, drop_of_length-le, length-append, len
 use lib.Seq.{drop-cons, drop-drop, take_all, split_at}
 use borrow.Author.Tests.{eq-eqb, ne_eqb, eqb-true, eqb-false}
 use Rattle.laws.specs.Choice.{pick}
-use Rattle.lines.specs.Line.{space, indexOf, up_to, pieceLength, afterSpaces, part}
+use Rattle.lines.specs.Line.{space, index_of, up_to, piece_length, after_spaces, part}
 
 -- the search from the place i on
 module _ (b : ℕ) (s : List ℕ) (i : ℕ) where
-  pub index-end : length s ≤ i → indexOf b (drop i s) ≡ 0
-  unfolding indexOf
+  pub index-end : length s ≤ i → index_of b (drop i s) ≡ 0
+  unfolding index_of
   index-end h = rw (drop_of_length-le s h)
 
-  pub index-here : i < length s → get_or s i 0 ≡ b → indexOf b (drop i s) ≡ 0
-  unfolding indexOf
+  pub index-here : i < length s → get_or s i 0 ≡ b → index_of b (drop i s) ≡ 0
+  unfolding index_of
   index-here h e = rw (drop-cons s i 0 h, eq-eqb (get_or s i 0) b e)
 
-  pub index_on : i < length s → (get_or s i 0 ≡ b → ⊥) → indexOf b (drop i s) ≡ suc (indexOf b (drop (i + 1) s))
-  unfolding indexOf
+  pub index_on : i < length s → (get_or s i 0 ≡ b → ⊥) → index_of b (drop i s) ≡ suc (index_of b (drop (i + 1) s))
+  unfolding index_of
   index_on h n = rw (add-one i, drop-cons s i 0 h, ne_eqb (get_or s i 0) b n)
 
-pub index-within : (b : ℕ) (s : List ℕ) → indexOf b s ≤ length s
-unfolding indexOf
+pub index-within : (b : ℕ) (s : List ℕ) → index_of b s ≤ length s
+unfolding index_of
 index-within b [] = omega arith
 index-within b (x ∷ s) = go (eqb x b) (index-within b s)
   where
-    go : (t : Bool) → indexOf b s ≤ length s → pick t 0 (suc (indexOf b s)) ≤ suc (length s)
+    go : (t : Bool) → index_of b s ≤ length s → pick t 0 (suc (index_of b s)) ≤ suc (length s)
     go true h = omega arith
     go false h = omega arith
 
 -- a piece lies within the text, and takes some of it
 module _ (b : ℕ) (s : List ℕ) where
-  pub piece-within : pieceLength b s ≤ length s
-  unfolding pieceLength
-  piece-within = go (eqb (indexOf b s) (length s)) refl
+  pub piece-within : piece_length b s ≤ length s
+  unfolding piece_length
+  piece-within = go (eqb (index_of b s) (length s)) refl
     where
-      go : (t : Bool) → eqb (indexOf b s) (length s) ≡ t → pick t (length s) (suc (indexOf b s)) ≤ length s
+      go : (t : Bool) → eqb (index_of b s) (length s) ≡ t → pick t (length s) (suc (index_of b s)) ≤ length s
       go true e = omega arith
-      go false e = omega (arith, index-within b s, eqb-false (indexOf b s) (length s) e)
+      go false e = omega (arith, index-within b s, eqb-false (index_of b s) (length s) e)
 
-  pub piece-some : 0 < length s → 0 < pieceLength b s
-  unfolding pieceLength
-  piece-some h = go (eqb (indexOf b s) (length s))
+  pub piece-some : 0 < length s → 0 < piece_length b s
+  unfolding piece_length
+  piece-some h = go (eqb (index_of b s) (length s))
     where
-      go : (t : Bool) → 0 < pick t (length s) (suc (indexOf b s))
+      go : (t : Bool) → 0 < pick t (length s) (suc (index_of b s))
       go true = omega arith
       go false = omega arith
 
@@ -58,9 +58,9 @@ pub rest-is : (s : List ℕ) (at : ℕ) → take (length s - at) (drop at s) ≡
 rest-is s at = take_all (length s - at) (drop at s) (simp length-drop (omega arith))
 
 -- the piece at a place, of n bytes
-module _ (b : ℕ) (s : List ℕ) (at n : ℕ) (e : n ≡ pieceLength b (take (length s - at) (drop at s))) where
-  piece-at : n ≡ pieceLength b (drop at s)
-  piece-at = e ∙ ap (pieceLength b) (rest-is s at)
+module _ (b : ℕ) (s : List ℕ) (at n : ℕ) (e : n ≡ piece_length b (take (length s - at) (drop at s))) where
+  piece-at : n ≡ piece_length b (drop at s)
+  piece-at = e ∙ ap (piece_length b) (rest-is s at)
 
   pub step-within : at ≤ length s → at + n ≤ length s
   step-within h = omega (arith, piece-at, piece-within b (drop at s), length-drop at s)
@@ -69,48 +69,48 @@ module _ (b : ℕ) (s : List ℕ) (at n : ℕ) (e : n ≡ pieceLength b (take (l
   step-some h = omega (arith, piece-at, piece-some b (drop at s) (omega (arith, length-drop at s)))
 
 -- one space more: of k, i were passed, up to the place at
-pub step-on : (line : List ℕ) (k i at n : ℕ) → n ≡ pieceLength space (take (length line - at) (drop at line)) → i < k
-    → afterSpaces (k - i) (drop at line) ≡ afterSpaces (k - (i + 1)) (drop (at + n) line)
-unfolding afterSpaces
+pub step-on : (line : List ℕ) (k i at n : ℕ) → n ≡ piece_length space (take (length line - at) (drop at line)) → i < k
+    → after_spaces (k - i) (drop at line) ≡ after_spaces (k - (i + 1)) (drop (at + n) line)
+unfolding after_spaces
 step-on line k i at n e h =
     let z : k - i ≡ suc (k - (i + 1)) = omega arith in
-    ap (λ (m : ℕ). afterSpaces m (drop at line)) z
-    ∙ ap (afterSpaces (k - (i + 1))) (ap (λ (m : ℕ). drop m (drop at line)) (sym (piece-at space line at n e)) ∙ drop-drop n at line)
+    ap (λ (m : ℕ). after_spaces m (drop at line)) z
+    ∙ ap (after_spaces (k - (i + 1))) (ap (λ (m : ℕ). drop m (drop at line)) (sym (piece-at space line at n e)) ∙ drop-drop n at line)
 
-pub step-all : (line : List ℕ) (k i at : ℕ) → k ≤ i → afterSpaces (k - i) (drop at line) ≡ take (length line - at) (drop at line)
-unfolding afterSpaces
+pub step-all : (line : List ℕ) (k i at : ℕ) → k ≤ i → after_spaces (k - i) (drop at line) ≡ take (length line - at) (drop at line)
+unfolding after_spaces
 step-all line k i at h =
     let z : k - i ≡ 0 = omega arith in
-    ap (λ (m : ℕ). afterSpaces m (drop at line)) z ∙ sym (rest-is line at)
+    ap (λ (m : ℕ). after_spaces m (drop at line)) z ∙ sym (rest-is line at)
 
 -- where there is one, the byte stands at its place
-index-hit : (b : ℕ) (s : List ℕ) → indexOf b s < length s → get_or s (indexOf b s) 0 ≡ b
-unfolding indexOf
+index-hit : (b : ℕ) (s : List ℕ) → index_of b s < length s → get_or s (index_of b s) 0 ≡ b
+unfolding index_of
 index-hit b [] h = absurd (omega arith)
 index-hit b (x ∷ s) h = go (eqb x b) refl h (index-hit b s)
   where
-    go : (t : Bool) → eqb x b ≡ t → pick t 0 (suc (indexOf b s)) < suc (length s) → (indexOf b s < length s → get_or s (indexOf b s) 0 ≡ b)
-        → get_or (x ∷ s) (pick t 0 (suc (indexOf b s))) 0 ≡ b
+    go : (t : Bool) → eqb x b ≡ t → pick t 0 (suc (index_of b s)) < suc (length s) → (index_of b s < length s → get_or s (index_of b s) 0 ≡ b)
+        → get_or (x ∷ s) (pick t 0 (suc (index_of b s))) 0 ≡ b
     go true e l rec = eqb-true x b e
     go false e l rec = rec (omega arith)
 
 -- what something follows is cut at a space
-cut : (s : List ℕ) → 0 < length (drop (pieceLength space s) s) → s ≡ up_to space s ++ (space ∷ drop (pieceLength space s) s)
-unfolding pieceLength
-cut s h = go (eqb (indexOf space s) (length s)) refl h
+cut : (s : List ℕ) → 0 < length (drop (piece_length space s) s) → s ≡ up_to space s ++ (space ∷ drop (piece_length space s) s)
+unfolding piece_length
+cut s h = go (eqb (index_of space s) (length s)) refl h
   where
-    go : (t : Bool) → eqb (indexOf space s) (length s) ≡ t → 0 < length (drop (pick t (length s) (suc (indexOf space s))) s)
-        → s ≡ take (indexOf space s) s ++ (space ∷ drop (pick t (length s) (suc (indexOf space s))) s)
+    go : (t : Bool) → eqb (index_of space s) (length s) ≡ t → 0 < length (drop (pick t (length s) (suc (index_of space s))) s)
+        → s ≡ take (index_of space s) s ++ (space ∷ drop (pick t (length s) (suc (index_of space s))) s)
     go true e l = absurd (omega (arith, length-drop (length s) s))
     go false e l =
-        let n : indexOf space s < length s = omega (arith, index-within space s, eqb-false (indexOf space s) (length s) e) in
-        split_at s (indexOf space s) 0 n
-        ∙ ap (λ (x : ℕ). take (indexOf space s) s ++ (x ∷ drop (suc (indexOf space s)) s)) (index-hit space s n)
+        let n : index_of space s < length s = omega (arith, index-within space s, eqb-false (index_of space s) (length s) e) in
+        split_at s (index_of space s) 0 n
+        ∙ ap (λ (x : ℕ). take (index_of space s) s ++ (x ∷ drop (suc (index_of space s)) s)) (index-hit space s n)
 
-pub cut_at : (k : ℕ) (line : List ℕ) → 0 < length (afterSpaces (suc k) line) → afterSpaces k line ≡ part k line ++ (space ∷ afterSpaces (suc k) line)
-unfolding afterSpaces part
+pub cut_at : (k : ℕ) (line : List ℕ) → 0 < length (after_spaces (suc k) line) → after_spaces k line ≡ part k line ++ (space ∷ after_spaces (suc k) line)
+unfolding after_spaces part
 cut_at zero line h = cut line h
-cut_at (suc k) line h = cut_at k (drop (pieceLength space line) line) h
+cut_at (suc k) line h = cut_at k (drop (piece_length space line) line) h
 
-pub some-before : (k : ℕ) (line : List ℕ) → 0 < length (afterSpaces (suc k) line) → 0 < length (afterSpaces k line)
-some-before k line h = omega (arith, ap length (cut_at k line h), length-append (part k line) (space ∷ afterSpaces (suc k) line))
+pub some-before : (k : ℕ) (line : List ℕ) → 0 < length (after_spaces (suc k) line) → 0 < length (after_spaces k line)
+some-before k line h = omega (arith, ap length (cut_at k line h), length-append (part k line) (space ∷ after_spaces (suc k) line))

@@ -7,50 +7,50 @@ abbrev pub space : ℕ
 space = 32
 
 -- the place of the first byte b, or the length where there is none
-unfoldable pub indexOf : ℕ → List ℕ → ℕ
-indexOf b [] = 0
-indexOf b (x ∷ s) = pick (eqb x b) 0 (suc (indexOf b s))
+unfoldable pub index_of : ℕ → List ℕ → ℕ
+index_of b [] = 0
+index_of b (x ∷ s) = pick (eqb x b) 0 (suc (index_of b s))
 
 -- the bytes before the first byte b
 abbrev pub up_to : ℕ → List ℕ → List ℕ
-up_to b s = take (indexOf b s) s
+up_to b s = take (index_of b s) s
 
 -- how many bytes the first piece of a text takes, with the byte b that ends it. The last piece may lack it
-unfoldable pub pieceLength : ℕ → List ℕ → ℕ
-pieceLength b s = pick (eqb (indexOf b s) (length s)) (length s) (suc (indexOf b s))
+unfoldable pub piece_length : ℕ → List ℕ → ℕ
+piece_length b s = pick (eqb (index_of b s) (length s)) (length s) (suc (index_of b s))
 
 -- what follows k spaces: nothing, where there are fewer
-unfoldable pub afterSpaces : ℕ → List ℕ → List ℕ
-afterSpaces zero s = s
-afterSpaces (suc k) s = afterSpaces k (drop (pieceLength space s) s)
+unfoldable pub after_spaces : ℕ → List ℕ → List ℕ
+after_spaces zero s = s
+after_spaces (suc k) s = after_spaces k (drop (piece_length space s) s)
 
 -- part k of a line, counted from 0
 unfoldable pub part : ℕ → List ℕ → List ℕ
-part k line = up_to space (afterSpaces k line)
+part k line = up_to space (after_spaces k line)
 
 -- how many line ends a text has
-unfoldable pub lineEnds : List ℕ → ℕ
-lineEnds [] = 0
-lineEnds (b ∷ s) = pick (eqb b lf) 1 0 + lineEnds s
+unfoldable pub line_ends : List ℕ → ℕ
+line_ends [] = 0
+line_ends (b ∷ s) = pick (eqb b lf) 1 0 + line_ends s
 
 -- the line in which a place lies, counted from 1
 unfoldable pub line_of : List ℕ → ℕ → ℕ
-line_of s place = 1 + lineEnds (take place s)
+line_of s place = 1 + line_ends (take place s)
 
 -- the column that follows a text which begins at a column: 1 after a line end, and one more after any other byte
-unfoldable pub columnAfter : ℕ → List ℕ → ℕ
-columnAfter column [] = column
-columnAfter column (b ∷ s) = columnAfter (pick (eqb b lf) 1 (column + 1)) s
+unfoldable pub column_after : ℕ → List ℕ → ℕ
+column_after column [] = column
+column_after column (b ∷ s) = column_after (pick (eqb b lf) 1 (column + 1)) s
 
 -- the column of a place in its line, counted from 1
-unfoldable pub columnOf : List ℕ → ℕ → ℕ
-columnOf s place = columnAfter 1 (take place s)
+unfoldable pub column_of : List ℕ → ℕ → ℕ
+column_of s place = column_after 1 (take place s)
 
 -- how many bytes of a text the first n line ends take, with what stands before them
-unfoldable pub throughEnds : ℕ → List ℕ → ℕ
-throughEnds n [] = 0
-throughEnds n (b ∷ s) = pick (eqb n 0) 0 (suc (throughEnds (pick (eqb b lf) (n - 1) n) s))
+unfoldable pub through_ends : ℕ → List ℕ → ℕ
+through_ends n [] = 0
+through_ends n (b ∷ s) = pick (eqb n 0) 0 (suc (through_ends (pick (eqb b lf) (n - 1) n) s))
 
 -- the place that a line and a column name
-unfoldable pub placeAt : List ℕ → ℕ → ℕ → ℕ
-placeAt s line column = throughEnds (line - 1) s + (column - 1)
+unfoldable pub place_at : List ℕ → ℕ → ℕ → ℕ
+place_at s line column = through_ends (line - 1) s + (column - 1)

@@ -1,11 +1,11 @@
 // The lines of a text: the line and the column of a place, and a line's parts, which single spaces separate.
 
 ghost use Rattle.std.specs.Prelude.{◌≡◌, ◌≤◌, length};
-ghost use Rattle.lines.specs.Line.{indexOf, pieceLength, afterSpaces, part, line_of, columnOf};
+ghost use Rattle.lines.specs.Line.{index_of, piece_length, after_spaces, part, line_of, column_of};
 
 // The place of the first byte b, or the length where there is none.
 pub fn index_of(s: &[u8], b: u8) -> usize
-    ensures { result ≡ indexOf b s.now }
+    ensures { result ≡ index_of b s.now }
 {
     let mut i = 0;
     while i < s.len() {
@@ -19,7 +19,7 @@ pub fn index_of(s: &[u8], b: u8) -> usize
 
 // How many bytes the first piece of a text takes, with the byte b that ends it. The last piece may lack it.
 pub fn piece_length(s: &[u8], b: u8) -> usize
-    ensures { result ≡ pieceLength b s.now }
+    ensures { result ≡ piece_length b s.now }
 {
     let end = index_of(s, b);
     if end == s.len() {
@@ -30,7 +30,7 @@ pub fn piece_length(s: &[u8], b: u8) -> usize
 
 // What follows k spaces: nothing, where there are fewer.
 pub fn after_spaces(line: &[u8], k: usize) -> &[u8]
-    ensures { result.now ≡ afterSpaces k line.now }
+    ensures { result.now ≡ after_spaces k line.now }
 {
     let mut at = 0;
     let mut i = 0;
@@ -69,7 +69,7 @@ pub fn line_of(text: &[u8], place: usize) -> usize
 // The column of a place in its line, counted from 1.
 pub fn column_of(text: &[u8], place: usize) -> usize
     requires { place ≤ length text.now }
-    ensures { result ≡ columnOf text.now place }
+    ensures { result ≡ column_of text.now place }
 {
     let mut column = 1;
     let mut i = 0;

@@ -4,9 +4,9 @@ use Rattle.laws.specs.Choice.{pick}
 use Rattle.refusals.specs.Numbers.{done}
 use Rattle.slots.specs.declared.Slot.{Slot}
 use Rattle.fields.specs.Fields.{asked_of}
-use Rattle.slots.specs.Slots.{emptyTable}
+use Rattle.slots.specs.Slots.{empty_table}
 use Rattle.slot_calls.specs.Calls.{loaded}
-use Rattle.record_reader.specs.Record.{recordRead}
+use Rattle.record_reader.specs.Record.{record_read}
 use Rattle.loading.specs.declared.Loaded.{Loaded}
 
 -- every record is loaded
@@ -16,20 +16,20 @@ filled table = record { refusal = done; position = 0; line = 0; column = 0; tabl
 -- a record is refused
 abbrev pub refused : ℕ → ℕ → ℕ → ℕ → Loaded
 refused refusal position line column =
-    record { refusal = refusal; position = position; line = line; column = column; table = emptyTable }
+    record { refusal = refusal; position = position; line = line; column = column; table = empty_table }
 
 -- The records of s, the first of them at a position of the sheet, are loaded into a table one after the other, until the bytes end.
 -- The first argument only bounds how many there are.
-unfoldable pub loadWithin : ℕ → List Slot → ℕ → List ℕ → Loaded
-loadWithin zero table position s = filled table
-loadWithin (suc k) table position s =
-    let read = recordRead s in
+unfoldable pub load_within : ℕ → List Slot → ℕ → List ℕ → Loaded
+load_within zero table position s = filled table
+load_within (suc k) table position s =
+    let read = record_read s in
     let change = loaded table read.number (asked_of read.fields) read.key in
     pick (eqb (length s) 0) (filled table)
     (pick (not (eqb read.refusal done)) (refused read.refusal position read.line read.column)
     (pick (not (eqb change.refusal done)) (refused change.refusal position 0 0)
-    (loadWithin k change.table (position + 1) (drop read.used s))))
+    (load_within k change.table (position + 1) (drop read.used s))))
 
 -- into an empty table, counted from 1
-unfoldable pub loadAll : List ℕ → Loaded
-loadAll sheet = loadWithin (length sheet) emptyTable 1 sheet
+unfoldable pub load_all : List ℕ → Loaded
+load_all sheet = load_within (length sheet) empty_table 1 sheet

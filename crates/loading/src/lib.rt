@@ -1,6 +1,6 @@
 // A sheet's records, loaded into an empty table one after the other.
 ghost use Rattle.std.specs.Prelude.{◌≡◌};
-ghost use Rattle.loading.specs.Loading.{filled, refused, loadAll};
+ghost use Rattle.loading.specs.Loading.{filled, refused, load_all};
 
 use record_reader::read_record;
 use slots::{Slot, asked, empty_table};
@@ -42,7 +42,7 @@ fn refused(refusal: u8, position: usize, line: usize, column: usize) -> Loaded
 
 // Every record of a sheet, up to the first that is refused.
 pub fn load_all(sheet: &[u8]) -> Loaded
-    ensures { result ≡ loadAll sheet.now }
+    ensures { result ≡ load_all sheet.now }
 {
     let mut table = empty_table();
     let mut position = 1;

@@ -1,7 +1,7 @@
 // The figures that the calls of a log add up to, in a lent array (document 02, [13]).
 ghost use Rattle.std.specs.Prelude.{◌≡◌, ◌<◌, ◌≤◌, true};
-ghost use Rattle.logged_calls.specs.Log.{isSound};
-ghost use Rattle.logged_calls.specs.Figures.{row_of, plus, intoRow, addedAccepted, addedRefused, added};
+ghost use Rattle.logged_calls.specs.Log.{is_sound};
+ghost use Rattle.logged_calls.specs.Figures.{row_of, plus, into_row, added_accepted, added_refused, added};
 
 use logged_calls::Call;
 
@@ -21,7 +21,7 @@ fn plus(figures: &mut [u64], i: usize, n: u64)
 
 fn into_row(figures: &mut [u64], row: usize, bits: u64, blocks: u64)
     requires { row < 65 }
-    ensures { figures.new ≡ intoRow figures.old row bits blocks }
+    ensures { figures.new ≡ into_row figures.old row bits blocks }
 {
     plus(figures, 3 * row, 1);
     plus(figures, 3 * row + 1, bits);
@@ -38,7 +38,7 @@ fn row_of(slot: u64, direction: u64) -> usize
 // An accepted call, in its row and among all.
 fn add_accepted(figures: &mut [u64], row: usize, bits: u64, blocks: u64)
     requires { row < 64 }
-    ensures { figures.new ≡ addedAccepted figures.old row bits blocks }
+    ensures { figures.new ≡ added_accepted figures.old row bits blocks }
 {
     into_row(figures, row, bits, blocks);
     into_row(figures, TOTAL_ROW, bits, blocks);
@@ -48,14 +48,14 @@ fn add_accepted(figures: &mut [u64], row: usize, bits: u64, blocks: u64)
 // A refused call, by its number.
 fn add_refused(figures: &mut [u64], code: u64)
     requires { code ≤ 27 }
-    ensures { figures.new ≡ addedRefused figures.old code }
+    ensures { figures.new ≡ added_refused figures.old code }
 {
     plus(figures, LINES_AT + code as usize, 1);
     plus(figures, LINES_AT, 1);
 }
 
 pub fn add(figures: &mut [u64], c: Call)
-    requires { isSound c ≡ true }
+    requires { is_sound c ≡ true }
     ensures { figures.new ≡ added figures.old c }
 {
     let code = c.code;

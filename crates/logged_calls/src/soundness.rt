@@ -1,11 +1,11 @@
 // Which lines of a log are sound, once they are in form.
 ghost use Rattle.std.specs.Prelude.{◌≡◌};
-ghost use Rattle.logged_calls.specs.Log.{soundAccepted, soundRefused, isSound};
+ghost use Rattle.logged_calls.specs.Log.{sound_accepted, sound_refused, is_sound};
 
 use crate::Call;
 
 fn sound_accepted(slot: u64, direction: u64, bits: u64, blocks: u64) -> bool
-    ensures { result ≡ soundAccepted slot direction bits blocks }
+    ensures { result ≡ sound_accepted slot direction bits blocks }
 {
     if slot < 1 {
         return false;
@@ -32,7 +32,7 @@ fn sound_accepted(slot: u64, direction: u64, bits: u64, blocks: u64) -> bool
 }
 
 fn sound_refused(bits: u64, blocks: u64, code: u64) -> bool
-    ensures { result ≡ soundRefused bits blocks code }
+    ensures { result ≡ sound_refused bits blocks code }
 {
     if 27 < code {
         return false;
@@ -41,7 +41,7 @@ fn sound_refused(bits: u64, blocks: u64, code: u64) -> bool
 }
 
 pub fn is_sound(c: Call) -> bool
-    ensures { result ≡ isSound c }
+    ensures { result ≡ is_sound c }
 {
     let code = c.code;
     if code == 0 {

@@ -11,48 +11,48 @@ use Rattle.writing.specs.Text.{ascii, lf}
 use Rattle.laws.specs.Choice.{pick}
 use Rattle.line_parts.specs.Line.{equals, leading}
 use Rattle.line_parts.proofs.Counts.{leading-within}
-use Rattle.line_names.specs.Names.{formName, algName, useName, keyName, nameCount, nameText, isDecimal, hasName}
-use Rattle.line_faults.specs.Faults.{zerosIn, zerosDropped, lowerHex}
-use Rattle.sheet_faults.specs.Sheet.{isFormTwo, valueNamed}
-use Rattle.mended_text.specs.Text.{lowered, mendedValue, gained, valueMended, lineMended, linesMended, textMended}
+use Rattle.line_names.specs.Names.{form_name, alg_name, use_name, key_name, name_count, name_text, is_decimal, has_name}
+use Rattle.line_faults.specs.Faults.{zeros_in, zeros_dropped, lower_hex}
+use Rattle.sheet_faults.specs.Sheet.{is_form_two, value_named}
+use Rattle.mended_text.specs.Text.{lowered, mended_value, gained, value_mended, line_mended, lines_mended, text_mended}
 
 pub length-lowered : (s : List ℕ) → length (lowered s) ≡ length s
 unfolding lowered
 length-lowered [] = refl
 length-lowered (b ∷ s) = ap suc (length-lowered s)
 
-pub lowered-at : (s : List ℕ) (i : ℕ) → i < length s → get_or (lowered s) i 0 ≡ lowerHex (get_or s i 0)
+pub lowered-at : (s : List ℕ) (i : ℕ) → i < length s → get_or (lowered s) i 0 ≡ lower_hex (get_or s i 0)
 unfolding lowered
 lowered-at [] i h = absurd (omega arith)
 lowered-at (b ∷ s) zero h = refl
 lowered-at (b ∷ s) (suc i) h = lowered-at s i (omega arith)
 
-pub zeros_within : (k : ℕ) (value : List ℕ) → zerosDropped k value ≤ length value
-unfolding zerosDropped zerosIn
-zeros_within k value = go (isDecimal k)
+pub zeros_within : (k : ℕ) (value : List ℕ) → zeros_dropped k value ≤ length value
+unfolding zeros_dropped zeros_in
+zeros_within k value = go (is_decimal k)
   where
     go : (t : Bool) → pick t (leading 48 (take (length value - 1) value)) 0 ≤ length value
     go true = omega (arith, leading-within 48 (take (length value - 1) value), length-take (length value - 1) value)
     go false = omega arith
 
 module _ (k : ℕ) (value : List ℕ) where
-  pub mended-key : k ≡ keyName → mendedValue k value ≡ lowered (drop (zerosDropped k value) value)
-  unfolding mendedValue
-  mended-key e = rw (eq-eqb k keyName e)
+  pub mended-key : k ≡ key_name → mended_value k value ≡ lowered (drop (zeros_dropped k value) value)
+  unfolding mended_value
+  mended-key e = rw (eq-eqb k key_name e)
 
-  pub mended-other : (k ≡ keyName → ⊥) → mendedValue k value ≡ drop (zerosDropped k value) value
-  unfolding mendedValue
-  mended-other n = rw (ne_eqb k keyName n)
+  pub mended-other : (k ≡ key_name → ⊥) → mended_value k value ≡ drop (zeros_dropped k value) value
+  unfolding mended_value
+  mended-other n = rw (ne_eqb k key_name n)
 
 -- so the key loses no zero, and a word nothing
 pub mended-cases : (k : ℕ) (value : List ℕ)
-    → mendedValue k value ≡ pick (eqb k keyName) (lowered value) (pick (isDecimal k) (drop (zerosIn value) value) value)
-unfolding mendedValue zerosDropped isDecimal
-mended-cases k value = go (eqb k algName) (eqb k useName) (eqb k keyName)
+    → mended_value k value ≡ pick (eqb k key_name) (lowered value) (pick (is_decimal k) (drop (zeros_in value) value) value)
+unfolding mended_value zeros_dropped is_decimal
+mended-cases k value = go (eqb k alg_name) (eqb k use_name) (eqb k key_name)
   where
     go : (x y z : Bool)
-        → pick z (lowered (drop (pick (not x && (not y && not z)) (zerosIn value) 0) value)) (drop (pick (not x && (not y && not z)) (zerosIn value) 0) value)
-        ≡ pick z (lowered value) (pick (not x && (not y && not z)) (drop (zerosIn value) value) value)
+        → pick z (lowered (drop (pick (not x && (not y && not z)) (zeros_in value) 0) value)) (drop (pick (not x && (not y && not z)) (zeros_in value) 0) value)
+        ≡ pick z (lowered value) (pick (not x && (not y && not z)) (drop (zeros_in value) value) value)
     go true y true = refl
     go true y false = refl
     go false true true = refl
@@ -60,35 +60,35 @@ mended-cases k value = go (eqb k algName) (eqb k useName) (eqb k keyName)
     go false false true = refl
     go false false false = refl
 
-pub gained-form : (k : ℕ) → k ≡ formName → gained k ≡ ascii "2"
+pub gained-form : (k : ℕ) → k ≡ form_name → gained k ≡ ascii "2"
 unfolding gained
-gained-form k e = rw (eq-eqb k formName e)
+gained-form k e = rw (eq-eqb k form_name e)
 
-pub gained-code : (k : ℕ) → (k ≡ formName → ⊥) → gained k ≡ ascii "0"
+pub gained-code : (k : ℕ) → (k ≡ form_name → ⊥) → gained k ≡ ascii "0"
 unfolding gained
-gained-code k n = rw (ne_eqb k formName n)
+gained-code k n = rw (ne_eqb k form_name n)
 
 module _ (two : Bool) (lines : List (List ℕ)) (k : ℕ) where
-  pub value-given : hasName two k ≡ true → valueMended two lines k ≡ mendedValue k (valueNamed k lines)
-  unfolding valueMended
+  pub value-given : has_name two k ≡ true → value_mended two lines k ≡ mended_value k (value_named k lines)
+  unfolding value_mended
   value-given e = rw e
 
-  pub value-gained : hasName two k ≡ false → valueMended two lines k ≡ gained k
-  unfolding valueMended
+  pub value-gained : has_name two k ≡ false → value_mended two lines k ≡ gained k
+  unfolding value_mended
   value-gained e = rw e
 
-  pub line-parts : lineMended two lines k ≡ (nameText k ++ (equals ∷ [])) ++ (valueMended two lines k ++ (lf ∷ []))
-  unfolding lineMended
-  line-parts = sym (append_assoc (nameText k) (equals ∷ []) (valueMended two lines k ++ (lf ∷ [])))
+  pub line-parts : line_mended two lines k ≡ (name_text k ++ (equals ∷ [])) ++ (value_mended two lines k ++ (lf ∷ []))
+  unfolding line_mended
+  line-parts = sym (append_assoc (name_text k) (equals ∷ []) (value_mended two lines k ++ (lf ∷ [])))
 
-  pub lines_next : k < nameCount → linesMended two lines k (nameCount - k) ≡ lineMended two lines k ++ linesMended two lines (k + 1) (nameCount - (k + 1))
-  unfolding linesMended
-  lines_next h = let z : nameCount - k ≡ suc (nameCount - (k + 1)) = omega arith in ap (linesMended two lines k) z
+  pub lines_next : k < name_count → lines_mended two lines k (name_count - k) ≡ line_mended two lines k ++ lines_mended two lines (k + 1) (name_count - (k + 1))
+  unfolding lines_mended
+  lines_next h = let z : name_count - k ≡ suc (name_count - (k + 1)) = omega arith in ap (lines_mended two lines k) z
 
-  pub lines_none : nameCount ≤ k → linesMended two lines k (nameCount - k) ≡ []
-  unfolding linesMended
-  lines_none h = let z : nameCount - k ≡ 0 = omega arith in ap (linesMended two lines k) z
+  pub lines_none : name_count ≤ k → lines_mended two lines k (name_count - k) ≡ []
+  unfolding lines_mended
+  lines_none h = let z : name_count - k ≡ 0 = omega arith in ap (lines_mended two lines k) z
 
-pub text-lines : (two : Bool) (lines : List (List ℕ)) → two ≡ isFormTwo lines → textMended lines ≡ linesMended two lines 0 nameCount
-unfolding textMended
-text-lines two lines e = ap (λ (t : Bool). linesMended t lines 0 nameCount) (sym e)
+pub text-lines : (two : Bool) (lines : List (List ℕ)) → two ≡ is_form_two lines → text_mended lines ≡ lines_mended two lines 0 name_count
+unfolding text_mended
+text-lines two lines e = ap (λ (t : Bool). lines_mended t lines 0 name_count) (sym e)

@@ -3,9 +3,9 @@
 ghost use Rattle.std.specs.Prelude.{[], ◌∷◌, ◌++◌, ◌≡◌};
 ghost use Rattle.writing.specs.Writing.{Room, Put};
 ghost use Rattle.line_parts.specs.Line.{equals};
-ghost use Rattle.line_names.specs.Names.{nameText};
-ghost use Rattle.sheet_faults.specs.Sheet.{lines_of, isFormTwo};
-ghost use Rattle.mended_text.specs.Text.{lowered, mendedValue, gained, valueMended, lineMended, textMended};
+ghost use Rattle.line_names.specs.Names.{name_text};
+ghost use Rattle.sheet_faults.specs.Sheet.{lines_of, is_form_two};
+ghost use Rattle.mended_text.specs.Text.{lowered, mended_value, gained, value_mended, line_mended, text_mended};
 
 use line_faults::{lower_hex, zeros_dropped};
 use line_names::{has_name, name_bytes};
@@ -32,8 +32,8 @@ fn put_lowered<'a>(buffer: &'a mut [u8], at: usize, bytes: &'a [u8]) -> usize
 
 // The value under the name of number k, mended.
 fn put_mended<'a>(buffer: &'a mut [u8], at: usize, k: usize, value: &'a [u8]) -> usize
-    requires { Room buffer.old at (mendedValue k value.now) }
-    ensures { Put buffer.old at (mendedValue k value.now) buffer.new result }
+    requires { Room buffer.old at (mended_value k value.now) }
+    ensures { Put buffer.old at (mended_value k value.now) buffer.new result }
 {
     let digits = rest(value, zeros_dropped(k, value));
     if k == line_names::KEY {
@@ -55,8 +55,8 @@ fn put_gained(buffer: &mut [u8], at: usize, k: usize) -> usize
 
 // The value that the sheet has under a name, or what it gains.
 fn put_value<'a>(buffer: &'a mut [u8], at: usize, text: &'a [u8], two: bool, k: usize) -> usize
-    requires { Room buffer.old at (valueMended two (lines_of text.now) k) }
-    ensures { Put buffer.old at (valueMended two (lines_of text.now) k) buffer.new result }
+    requires { Room buffer.old at (value_mended two (lines_of text.now) k) }
+    ensures { Put buffer.old at (value_mended two (lines_of text.now) k) buffer.new result }
 {
     if has_name(two, k) {
         return put_mended(buffer, at, k, value_named(text, k));
@@ -66,8 +66,8 @@ fn put_value<'a>(buffer: &'a mut [u8], at: usize, text: &'a [u8], two: bool, k: 
 
 // A name and `=`.
 fn put_name(buffer: &mut [u8], at: usize, k: usize) -> usize
-    requires { Room buffer.old at (nameText k ++ (equals ∷ [])) }
-    ensures { Put buffer.old at (nameText k ++ (equals ∷ [])) buffer.new result }
+    requires { Room buffer.old at (name_text k ++ (equals ∷ [])) }
+    ensures { Put buffer.old at (name_text k ++ (equals ∷ [])) buffer.new result }
 {
     let bytes = name_bytes(k);
     let n = index_of(&bytes, b'=');
@@ -77,8 +77,8 @@ fn put_name(buffer: &mut [u8], at: usize, k: usize) -> usize
 
 // A line.
 fn put_line<'a>(buffer: &'a mut [u8], at: usize, text: &'a [u8], two: bool, k: usize) -> usize
-    requires { Room buffer.old at (lineMended two (lines_of text.now) k) }
-    ensures { Put buffer.old at (lineMended two (lines_of text.now) k) buffer.new result }
+    requires { Room buffer.old at (line_mended two (lines_of text.now) k) }
+    ensures { Put buffer.old at (line_mended two (lines_of text.now) k) buffer.new result }
 {
     let value = put_name(buffer, at, k);
     let end = put_value(buffer, value, text, two, k);
@@ -87,8 +87,8 @@ fn put_line<'a>(buffer: &'a mut [u8], at: usize, text: &'a [u8], two: bool, k: u
 
 // The ten lines, for a buffer that has room for them.
 pub fn put_text<'a>(buffer: &'a mut [u8], text: &'a [u8], two: bool) -> usize
-    requires { (two ≡ isFormTwo (lines_of text.now)) × Room buffer.old 0 (textMended (lines_of text.now)) }
-    ensures { Put buffer.old 0 (textMended (lines_of text.now)) buffer.new result }
+    requires { (two ≡ is_form_two (lines_of text.now)) × Room buffer.old 0 (text_mended (lines_of text.now)) }
+    ensures { Put buffer.old 0 (text_mended (lines_of text.now)) buffer.new result }
 {
     let mut at = 0;
     let mut k = 0;

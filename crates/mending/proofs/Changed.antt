@@ -8,31 +8,31 @@ use lib.ListN.{length, length-append}
 use Rattle.laws.specs.Choice.{pick}
 use Rattle.writing.specs.Text.{ascii, lf}
 use Rattle.line_faults.specs.declared.Fault.TheVariants.{Crlf, Hex, Zeros, Spaces}
-use Rattle.sheet_faults.specs.Sheet.{isFormTwo, anyFault, inOrderFrom}
-use Rattle.mending.specs.Changes.{changeText, changesText}
+use Rattle.sheet_faults.specs.Sheet.{is_form_two, any_fault, in_order_from}
+use Rattle.mending.specs.Changes.{change_text, changes_text}
 
-pub change-made : (name : List ℕ) → changeText true name ≡ ascii "changed=" ++ (name ++ (lf ∷ []))
-unfolding changeText
+pub change-made : (name : List ℕ) → change_text true name ≡ ascii "changed=" ++ (name ++ (lf ∷ []))
+unfolding change_text
 change-made name = refl
 
-pub change-none : (name : List ℕ) → changeText false name ≡ []
-unfolding changeText
+pub change-none : (name : List ℕ) → change_text false name ≡ []
+unfolding change_text
 change-none name = refl
 
-change-short : (made : Bool) (name : List ℕ) → length (changeText made name) ≤ 9 + length name
-unfolding changeText
+change-short : (made : Bool) (name : List ℕ) → length (change_text made name) ≤ 9 + length name
+unfolding change_text
 change-short true name = omega (arith, length-append name (lf ∷ []))
 change-short false name = omega arith
 
-pub changes-short : (lines : List (List ℕ)) → length (changesText lines) ≤ 81
-unfolding changesText
+pub changes-short : (lines : List (List ℕ)) → length (changes_text lines) ≤ 81
+unfolding changes_text
 changes-short lines =
-    let crlf = changeText (anyFault Crlf lines) (ascii "crlf") in
-    let hex = changeText (anyFault Hex lines) (ascii "hex") in
-    let zeros = changeText (anyFault Zeros lines) (ascii "zeros") in
-    let spaces = changeText (anyFault Spaces lines) (ascii "spaces") in
-    let order = changeText (not (inOrderFrom 0 lines)) (ascii "order") in
-    let form = changeText (not (isFormTwo lines)) (ascii "form") in
+    let crlf = change_text (any_fault Crlf lines) (ascii "crlf") in
+    let hex = change_text (any_fault Hex lines) (ascii "hex") in
+    let zeros = change_text (any_fault Zeros lines) (ascii "zeros") in
+    let spaces = change_text (any_fault Spaces lines) (ascii "spaces") in
+    let order = change_text (not (in_order_from 0 lines)) (ascii "order") in
+    let form = change_text (not (is_form_two lines)) (ascii "form") in
     omega (
       arith,
       length-append crlf (hex ++ (zeros ++ (spaces ++ (order ++ form)))),
@@ -40,10 +40,10 @@ changes-short lines =
       length-append zeros (spaces ++ (order ++ form)),
       length-append spaces (order ++ form),
       length-append order form,
-      change-short (anyFault Crlf lines) (ascii "crlf"),
-      change-short (anyFault Hex lines) (ascii "hex"),
-      change-short (anyFault Zeros lines) (ascii "zeros"),
-      change-short (anyFault Spaces lines) (ascii "spaces"),
-      change-short (not (inOrderFrom 0 lines)) (ascii "order"),
-      change-short (not (isFormTwo lines)) (ascii "form"),
+      change-short (any_fault Crlf lines) (ascii "crlf"),
+      change-short (any_fault Hex lines) (ascii "hex"),
+      change-short (any_fault Zeros lines) (ascii "zeros"),
+      change-short (any_fault Spaces lines) (ascii "spaces"),
+      change-short (not (in_order_from 0 lines)) (ascii "order"),
+      change-short (not (is_form_two lines)) (ascii "form"),
     )

@@ -1,8 +1,8 @@
 // The changes that were made, a line for each.
 ghost use Rattle.std.specs.Prelude.{not, ◌≡◌};
 ghost use Rattle.writing.specs.Writing.{Room, Put};
-ghost use Rattle.sheet_faults.specs.Sheet.{lines_of, isFormTwo, anyFault, inOrderFrom};
-ghost use Rattle.mending.specs.Changes.{changeText, changesText};
+ghost use Rattle.sheet_faults.specs.Sheet.{lines_of, is_form_two, any_fault, in_order_from};
+ghost use Rattle.mending.specs.Changes.{change_text, changes_text};
 
 use line_faults::Fault;
 use sheet_faults::{any_fault, in_order};
@@ -10,8 +10,8 @@ use writing::put_bytes;
 
 // A line for a change, if it was made.
 fn put_change<'a>(buffer: &'a mut [u8], at: usize, made: bool, name: &'a [u8]) -> usize
-    requires { Room buffer.old at (changeText made name.now) }
-    ensures { Put buffer.old at (changeText made name.now) buffer.new result }
+    requires { Room buffer.old at (change_text made name.now) }
+    ensures { Put buffer.old at (change_text made name.now) buffer.new result }
 {
     if !made {
         return at;
@@ -29,8 +29,8 @@ fn put_fault<'a>(
     fault: Fault,
     name: &'a [u8],
 ) -> usize
-    requires { Room buffer.old at (changeText (anyFault fault (lines_of text.now)) name.now) }
-    ensures { Put buffer.old at (changeText (anyFault fault (lines_of text.now)) name.now) buffer.new result }
+    requires { Room buffer.old at (change_text (any_fault fault (lines_of text.now)) name.now) }
+    ensures { Put buffer.old at (change_text (any_fault fault (lines_of text.now)) name.now) buffer.new result }
 {
     let made = any_fault(text, fault);
     put_change(buffer, at, made, name)
@@ -38,8 +38,8 @@ fn put_fault<'a>(
 
 // A line for names that stood in another order.
 fn put_order<'a>(buffer: &'a mut [u8], at: usize, text: &'a [u8], name: &'a [u8]) -> usize
-    requires { Room buffer.old at (changeText (not (inOrderFrom 0 (lines_of text.now))) name.now) }
-    ensures { Put buffer.old at (changeText (not (inOrderFrom 0 (lines_of text.now))) name.now) buffer.new result }
+    requires { Room buffer.old at (change_text (not (in_order_from 0 (lines_of text.now))) name.now) }
+    ensures { Put buffer.old at (change_text (not (in_order_from 0 (lines_of text.now))) name.now) buffer.new result }
 {
     let made = !in_order(text);
     put_change(buffer, at, made, name)
@@ -47,8 +47,8 @@ fn put_order<'a>(buffer: &'a mut [u8], at: usize, text: &'a [u8], name: &'a [u8]
 
 // A line for each change, in the document's order.
 pub fn put_changes<'a>(buffer: &'a mut [u8], at: usize, text: &'a [u8], two: bool) -> usize
-    requires { (two ≡ isFormTwo (lines_of text.now)) × Room buffer.old at (changesText (lines_of text.now)) }
-    ensures { Put buffer.old at (changesText (lines_of text.now)) buffer.new result }
+    requires { (two ≡ is_form_two (lines_of text.now)) × Room buffer.old at (changes_text (lines_of text.now)) }
+    ensures { Put buffer.old at (changes_text (lines_of text.now)) buffer.new result }
 {
     let hex = put_fault(buffer, at, text, Fault::Crlf, b"crlf");
     let zeros = put_fault(buffer, hex, text, Fault::Hex, b"hex");

@@ -2,10 +2,10 @@
 mod changes;
 
 ghost use Rattle.std.specs.Prelude.{◌≡◌, ◌<◌, ◌≤◌, length};
-ghost use Rattle.writing.specs.Text.{digits, lineText};
+ghost use Rattle.writing.specs.Text.{digits, line_text};
 ghost use Rattle.writing.specs.Writing.{Put};
-ghost use Rattle.mending.specs.Changes.{isRecord};
-ghost use Rattle.mending.specs.Answer.{mendAs, mendOut, printAs, printOut};
+ghost use Rattle.mending.specs.Changes.{is_record};
+ghost use Rattle.mending.specs.Answer.{mend_as, mend_out, print_as, print_out};
 
 use changes::put_changes;
 use line_parts::front;
@@ -35,7 +35,7 @@ pub struct Mended {
 
 // Is a text one record and nothing after it?
 fn is_record(s: &[u8]) -> bool
-    ensures { result ≡ isRecord s.now }
+    ensures { result ≡ is_record s.now }
 {
     let r = read_record(s);
     if r.refusal != refusals::DONE {
@@ -46,7 +46,7 @@ fn is_record(s: &[u8]) -> bool
 
 // The mended sheet, at the front of the buffer. The bytes after it stay; a refused sheet leaves them all.
 pub fn mend(text: &[u8], buffer: &mut [u8]) -> Mended
-    ensures { mendAs result.refusal result.length buffer.new ≡ mendOut text.now buffer.old }
+    ensures { mend_as result.refusal result.length buffer.new ≡ mend_out text.now buffer.old }
 {
     if sheet_bad(text) {
         return Mended {
@@ -79,7 +79,7 @@ pub fn mend(text: &[u8], buffer: &mut [u8]) -> Mended
 
 // What the program prints of a text, at the front of the buffer, and its length. A smaller buffer than `ROOM` stays as it is, with length 0.
 pub fn print(text: &[u8], buffer: &mut [u8]) -> usize
-    ensures { printAs result buffer.new ≡ printOut text.now buffer.old }
+    ensures { print_as result buffer.new ≡ print_out text.now buffer.old }
 {
     if buffer.len() < ROOM {
         return 0;
@@ -94,7 +94,7 @@ pub fn print(text: &[u8], buffer: &mut [u8]) -> usize
 // Mends a text into `out`, and leaves the length of the mended sheet in `written`.
 #[unsafe(no_mangle)]
 pub extern "C" fn card_mend(text: &[u8], out: &mut [u8], written: &mut usize) -> u8
-    ensures { mendAs result written.new out.new ≡ mendOut text.now out.old }
+    ensures { mend_as result written.new out.new ≡ mend_out text.now out.old }
 {
     let m = mend(text, out);
     *written = m.length;

@@ -10,8 +10,8 @@ use lib.Seq.{get_or-append-add, take-append-add, take-length, take-suc}
 use borrow.Author.Tests.{eq-eqb, lt-ltb, not-true, eqb-true, ltb-true}
 use Rattle.laws.specs.Choice.{pick}
 use Rattle.laws.proofs.Cases.{and_left, and_right}
-use Rattle.lines.specs.Line.{indexOf}
-use Rattle.line_parts.specs.Line.{endsWith, leading, trailing}
+use Rattle.lines.specs.Line.{index_of}
+use Rattle.line_parts.specs.Line.{ends_with, leading, trailing}
 
 -- every byte of a text passes a test
 abbrev pub every : (ℕ → Bool) → List ℕ → Bool
@@ -39,20 +39,20 @@ every-at p (b ∷ s) zero h e = and_left (p b) _ e
 every-at p (b ∷ s) (suc i) h e = every-at p s i (omega arith) (and_right (p b) (every p s) e)
 
 -- a byte other than b
-abbrev pub isOther : ℕ → ℕ → Bool
-isOther b x = not (eqb x b)
+abbrev pub is_other : ℕ → ℕ → Bool
+is_other b x = not (eqb x b)
 
 -- the first byte b stands after a text without it
-pub index-after : (b : ℕ) (s t : List ℕ) → every (isOther b) s ≡ true → indexOf b (s ++ (b ∷ t)) ≡ length s
-unfolding indexOf
+pub index-after : (b : ℕ) (s t : List ℕ) → every (is_other b) s ≡ true → index_of b (s ++ (b ∷ t)) ≡ length s
+unfolding index_of
 index-after b [] t e = rw (eq-eqb b b refl)
 index-after b (x ∷ s) t e =
-    rw (not-true (eqb x b) (and_left (isOther b x) _ e)) (ap suc (index-after b s t (and_right (isOther b x) (every (isOther b) s) e)))
+    rw (not-true (eqb x b) (and_left (is_other b x) _ e)) (ap suc (index-after b s t (and_right (is_other b x) (every (is_other b) s) e)))
 
-pub leading-none : (b : ℕ) (s : List ℕ) → every (isOther b) s ≡ true → leading b s ≡ 0
+pub leading-none : (b : ℕ) (s : List ℕ) → every (is_other b) s ≡ true → leading b s ≡ 0
 unfolding leading
 leading-none b [] e = refl
-leading-none b (x ∷ s) e = rw (not-true (eqb x b) (and_left (isOther b x) _ e))
+leading-none b (x ∷ s) e = rw (not-true (eqb x b) (and_left (is_other b x) _ e))
 
 pub leading-more : (b n : ℕ) (s : List ℕ) → leading b (replicate n b ++ s) ≡ n + leading b s
 unfolding leading
@@ -65,13 +65,13 @@ trailing-all b zero = refl
 trailing-all b (suc n) =
     rw (trailing-all b n, length-replicate n b, eq-eqb n n refl, eq-eqb b b refl)
 
-pub trailing-after : (b n : ℕ) (s : List ℕ) → every (isOther b) s ≡ true → trailing b (s ++ replicate n b) ≡ n
+pub trailing-after : (b n : ℕ) (s : List ℕ) → every (is_other b) s ≡ true → trailing b (s ++ replicate n b) ≡ n
 unfolding trailing
 trailing-after b n [] e = trailing-all b n
 trailing-after b n (x ∷ s) e =
-    rw (not-true (eqb x b) (and_left (isOther b x) _ e))
+    rw (not-true (eqb x b) (and_left (is_other b x) _ e))
     (go (eqb (trailing b (s ++ replicate n b)) (length (s ++ replicate n b)))
-    (trailing-after b n s (and_right (isOther b x) (every (isOther b) s) e)))
+    (trailing-after b n s (and_right (is_other b x) (every (is_other b) s) e)))
   where
     go : (t : Bool) → trailing b (s ++ replicate n b) ≡ n
         → pick (t && false) (suc (length (s ++ replicate n b))) (trailing b (s ++ replicate n b)) ≡ n
@@ -80,23 +80,23 @@ trailing-after b n (x ∷ s) e =
 
 -- the last byte of a text
 
-pub ends-after : (b : ℕ) (s t : List ℕ) → 0 < length t → endsWith b (s ++ t) ≡ endsWith b t
-unfolding endsWith
+pub ends-after : (b : ℕ) (s t : List ℕ) → 0 < length t → ends_with b (s ++ t) ≡ ends_with b t
+unfolding ends_with
 ends-after b s t h =
     let z : length (s ++ t) - 1 ≡ length s + (length t - 1) = omega (arith, length-append s t) in
     let l : 0 < length (s ++ t) = omega (arith, length-append s t) in
     rw (lt-ltb 0 (length (s ++ t)) l, lt-ltb 0 (length t) h, z) (ap (λ (x : ℕ). eqb x b) (get_or-append-add s t (length t - 1) 0))
 
-pub ends-other : (b : ℕ) (s : List ℕ) → every (isOther b) s ≡ true → endsWith b s ≡ false
-unfolding endsWith
+pub ends-other : (b : ℕ) (s : List ℕ) → every (is_other b) s ≡ true → ends_with b s ≡ false
+unfolding ends_with
 ends-other b [] e = refl
 ends-other b (x ∷ s) e =
     let some : 0 < suc (length s) = omega arith in
-    rw (lt-ltb 0 (suc (length s)) some) (not-true _ (every-at (isOther b) (x ∷ s) (suc (length s) - 1) (omega arith) e))
+    rw (lt-ltb 0 (suc (length s)) some) (not-true _ (every-at (is_other b) (x ∷ s) (suc (length s) - 1) (omega arith) e))
 
 -- a text that ends with a byte is something and that byte
-pub ends-split : (b : ℕ) (s : List ℕ) → endsWith b s ≡ true → s ≡ take (length s - 1) s ++ (b ∷ [])
-unfolding endsWith
+pub ends-split : (b : ℕ) (s : List ℕ) → ends_with b s ≡ true → s ≡ take (length s - 1) s ++ (b ∷ [])
+unfolding ends_with
 ends-split b s e =
     let some : 0 < length s = ltb-true 0 (length s) (and_left (ltb 0 (length s)) _ e) in
     let last : get_or s (length s - 1) 0 ≡ b = eqb-true _ b (and_right (ltb 0 (length s)) (eqb (get_or s (length s - 1) 0) b) e) in

@@ -14,29 +14,29 @@ use Rattle.laws.proofs.Tests.{holds, agree}
 use Rattle.fields.specs.Fields.{between}
 use Rattle.fields.proofs.Ranges.{between-low, between-high}
 use Rattle.forms.proofs.Decimals.{between_is, or_right}
-use Rattle.writing.specs.Text.{digits, hexDigit, hexText}
+use Rattle.writing.specs.Text.{digits, hex_digit, hex_text}
 use Rattle.writing.proofs.Digits.{digits-one, digits-ten}
 use Rattle.writing.proofs.Puts.{length-hex}
 use Rattle.line_parts.specs.Line.{leading}
-use Rattle.line_faults.specs.Faults.{zerosIn, isUpperHex, lowerHex}
+use Rattle.line_faults.specs.Faults.{zeros_in, is_upper_hex, lower_hex}
 use Rattle.mended_text.specs.Text.{lowered}
-use Rattle.mends.specs.Kept.{decimalFrom, allDecimal, SaysNumber, isHexDigit, hexDigitOf, halfByteOf, SaysKey}
+use Rattle.mends.specs.Kept.{decimal_from, all_decimal, SaysNumber, is_hex_digit, hex_digit_of, half_byte_of, SaysKey}
 
 -- NUMBERS
 
-from-append : (n : ℕ) (s t : List ℕ) → decimalFrom n (s ++ t) ≡ decimalFrom (decimalFrom n s) t
-unfolding decimalFrom
+from-append : (n : ℕ) (s t : List ℕ) → decimal_from n (s ++ t) ≡ decimal_from (decimal_from n s) t
+unfolding decimal_from
 from-append n [] t = refl
 from-append n (b ∷ s) t = from-append (n * 10 + (b - 48)) s t
 
-decimal-append : (s t : List ℕ) → allDecimal s ≡ true → allDecimal t ≡ true → allDecimal (s ++ t) ≡ true
-unfolding allDecimal
+decimal-append : (s t : List ℕ) → all_decimal s ≡ true → all_decimal t ≡ true → all_decimal (s ++ t) ≡ true
+unfolding all_decimal
 decimal-append [] t e f = f
 decimal-append (b ∷ s) t e f =
-    λ i. and_left (between 48 b 57) _ e i && decimal-append s t (and_right (between 48 b 57) (allDecimal s) e) f i
+    λ i. and_left (between 48 b 57) _ e i && decimal-append s t (and_right (between 48 b 57) (all_decimal s) e) f i
 
 said_more : (m d : ℕ) (s : List ℕ) → d < 10 → SaysNumber m s → SaysNumber (m * 10 + d) (s ++ ((48 + d) ∷ []))
-unfolding decimalFrom allDecimal
+unfolding decimal_from all_decimal
 said_more m d s h r =
     record {
       some = omega (arith, length-append s ((48 + d) ∷ []));
@@ -45,7 +45,7 @@ said_more m d s h r =
     }
 
 one : (n : ℕ) → n < 10 → SaysNumber n (digits n)
-unfolding decimalFrom allDecimal
+unfolding decimal_from all_decimal
 one n l =
     rw (digits-one n l)
     (record { some = omega arith; digits = rw (between_is 48 (48 + n) 57 (omega arith) (omega arith)); is = omega arith })
@@ -64,7 +64,7 @@ digits-say (suc k) n h = ⊎_elim (one n) (λ l. ten n l (digits-say k (n / 10) 
 
 -- zeros before a number's digits change nothing
 zeros-say : (z n : ℕ) (s : List ℕ) → SaysNumber n s → SaysNumber n (replicate z 48 ++ s)
-unfolding decimalFrom allDecimal
+unfolding decimal_from all_decimal
 zeros-say zero n s r = r
 zeros-say (suc z) n s r = let m = zeros-say z n s r in record { some = omega arith; digits = m.digits; is = m.is }
 
@@ -79,18 +79,18 @@ zeros-front b (suc m) (x ∷ s) = go (eqb x b) refl (zeros-front b m s)
     go true e r = λ i. eqb-true x b e i ∷ r i
     go false e r = refl
 
-pub zeros-split : (v : List ℕ) → replicate (zerosIn v) 48 ++ drop (zerosIn v) v ≡ v
-unfolding zerosIn
+pub zeros-split : (v : List ℕ) → replicate (zeros_in v) 48 ++ drop (zeros_in v) v ≡ v
+unfolding zeros_in
 zeros-split v =
     ap (λ (t : List ℕ). t ++ drop (leading 48 (take (length v - 1) v)) v) (sym (zeros-front 48 (length v - 1) v))
     ∙ take-append-drop (leading 48 (take (length v - 1) v)) v
 
-pub number-kept : (n : ℕ) (v : List ℕ) → drop (zerosIn v) v ≡ digits n → SaysNumber n v
+pub number-kept : (n : ℕ) (v : List ℕ) → drop (zeros_in v) v ≡ digits n → SaysNumber n v
 number-kept n v e =
-    subst (SaysNumber n) (ap (λ (t : List ℕ). replicate (zerosIn v) 48 ++ t) (sym e) ∙ zeros-split v)
-    (zeros-say (zerosIn v) n (digits n) (digits-say n n (omega arith)))
+    subst (SaysNumber n) (ap (λ (t : List ℕ). replicate (zeros_in v) 48 ++ t) (sym e) ∙ zeros-split v)
+    (zeros-say (zeros_in v) n (digits n) (digits-say n n (omega arith)))
 
-pub number-said : (n : ℕ) → decimalFrom 0 (digits n) ≡ n
+pub number-said : (n : ℕ) → decimal_from 0 (digits n) ≡ n
 number-said n = (digits-say n n (omega arith)).is
 
 -- KEYS
@@ -100,15 +100,15 @@ unfolding lowered
 lowered-length [] = refl
 lowered-length (b ∷ s) = ap suc (lowered-length s)
 
-lowered-at : (s : List ℕ) (i : ℕ) → get_or (lowered s) i 0 ≡ lowerHex (get_or s i 0)
-unfolding lowered lowerHex isUpperHex
+lowered-at : (s : List ℕ) (i : ℕ) → get_or (lowered s) i 0 ≡ lower_hex (get_or s i 0)
+unfolding lowered lower_hex is_upper_hex
 lowered-at [] i = refl
 lowered-at (b ∷ s) zero = refl
 lowered-at (b ∷ s) (suc i) = lowered-at s i
 
 -- a digit in lower case is the same digit
-lower-same : (b : ℕ) → hexDigitOf (lowerHex b) ≡ hexDigitOf b
-unfolding lowerHex isUpperHex hexDigitOf
+lower-same : (b : ℕ) → hex_digit_of (lower_hex b) ≡ hex_digit_of b
+unfolding lower_hex is_upper_hex hex_digit_of
 lower-same b = go (between 65 b 70) refl
   where
     go : (t : Bool) → between 65 b 70 ≡ t
@@ -120,8 +120,8 @@ lower-same b = go (between 65 b 70) refl
         rw (lt-leb (b + 32) 57 (omega arith), lt-leb (b + 32) 70 (omega arith), lt-leb b 57 (omega arith), le-leb b 70 h) (omega arith)
     go false e = refl
 
-lower-digit : (b : ℕ) → isHexDigit (lowerHex b) ≡ true → isHexDigit b ≡ true
-unfolding lowerHex isUpperHex isHexDigit
+lower-digit : (b : ℕ) → is_hex_digit (lower_hex b) ≡ true → is_hex_digit b ≡ true
+unfolding lower_hex is_upper_hex is_hex_digit
 lower-digit b = go (between 65 b 70) refl
   where
     go : (t : Bool) → between 65 b 70 ≡ t
@@ -130,43 +130,43 @@ lower-digit b = go (between 65 b 70) refl
     go true e h = or_right (between 48 b 57)
     go false e h = (λ i. between 48 b 57 || (sym e i || between 97 b 102)) ∙ h
 
-digit-is : (d : ℕ) → d < 16 → isHexDigit (hexDigit d) ≡ true
-unfolding isHexDigit hexDigit
-digit-is d h = holds (λ d. isHexDigit (hexDigit d)) 0 16 tt d zero-le h
+digit-is : (d : ℕ) → d < 16 → is_hex_digit (hex_digit d) ≡ true
+unfolding is_hex_digit hex_digit
+digit-is d h = holds (λ d. is_hex_digit (hex_digit d)) 0 16 tt d zero-le h
 
-digit-of : (d : ℕ) → d < 16 → hexDigitOf (hexDigit d) ≡ d
-unfolding hexDigitOf hexDigit
-digit-of d h = agree (λ d. hexDigitOf (hexDigit d)) (λ d. d) 0 16 tt d zero-le h
+digit-of : (d : ℕ) → d < 16 → hex_digit_of (hex_digit d) ≡ d
+unfolding hex_digit_of hex_digit
+digit-of d h = agree (λ d. hex_digit_of (hex_digit d)) (λ d. d) 0 16 tt d zero-le h
 
-half-later : (b : ℕ) (key : List ℕ) (i : ℕ) → halfByteOf (b ∷ key) (suc (suc i)) ≡ halfByteOf key i
-unfolding halfByteOf
+half-later : (b : ℕ) (key : List ℕ) (i : ℕ) → half_byte_of (b ∷ key) (suc (suc i)) ≡ half_byte_of key i
+unfolding half_byte_of
 half-later b key i =
     let r : suc (suc i) % 2 ≡ i % 2 = omega arith in
     let q : suc (suc i) / 2 ≡ suc (i / 2) = omega arith in
     λ k. pick (eqb (r k) 0) (get_or (b ∷ key) (q k) 0 / 16) (get_or (b ∷ key) (q k) 0 % 16)
 
-hex-at : (key : List ℕ) (i : ℕ) → i < 2 * length key → get_or (hexText key) i 0 ≡ hexDigit (halfByteOf key i)
-unfolding hexText halfByteOf
+hex-at : (key : List ℕ) (i : ℕ) → i < 2 * length key → get_or (hex_text key) i 0 ≡ hex_digit (half_byte_of key i)
+unfolding hex_text half_byte_of
 hex-at [] i h = absurd (omega arith)
 hex-at (b ∷ key) zero h = refl
 hex-at (b ∷ key) (suc zero) h = refl
-hex-at (b ∷ key) (suc (suc i)) h = hex-at key i (omega arith) ∙ ap hexDigit (sym (half-later b key i))
+hex-at (b ∷ key) (suc (suc i)) h = hex-at key i (omega arith) ∙ ap hex_digit (sym (half-later b key i))
 
-half-small : (key : List ℕ) (i : ℕ) → get_or key (i / 2) 0 < 256 → halfByteOf key i < 16
-unfolding halfByteOf
+half-small : (key : List ℕ) (i : ℕ) → get_or key (i / 2) 0 < 256 → half_byte_of key i < 16
+unfolding half_byte_of
 half-small key i h = go (eqb (i % 2) 0)
   where
     go : (t : Bool) → pick t (get_or key (i / 2) 0 / 16) (get_or key (i / 2) 0 % 16) < 16
     go true = omega arith
     go false = omega arith
 
-pub key-kept : (key v : List ℕ) → length key ≡ 24 → ((i : ℕ) → get_or key i 0 < 256) → lowered v ≡ hexText key → SaysKey key v
+pub key-kept : (key v : List ℕ) → length key ≡ 24 → ((i : ℕ) → get_or key i 0 < 256) → lowered v ≡ hex_text key → SaysKey key v
 key-kept key v n h e =
     record {
       size = omega (arith, lowered-length v, ap length e, length-hex key);
-      digits = λ i l. lower-digit (get_or v i 0) (ap isHexDigit (at i l) ∙ digit-is (halfByteOf key i) (half-small key i (h (i / 2))));
-      same = λ i l. sym (lower-same (get_or v i 0)) ∙ ap hexDigitOf (at i l) ∙ digit-of (halfByteOf key i) (half-small key i (h (i / 2)));
+      digits = λ i l. lower-digit (get_or v i 0) (ap is_hex_digit (at i l) ∙ digit-is (half_byte_of key i) (half-small key i (h (i / 2))));
+      same = λ i l. sym (lower-same (get_or v i 0)) ∙ ap hex_digit_of (at i l) ∙ digit-of (half_byte_of key i) (half-small key i (h (i / 2)));
     }
   where
-    at : (i : ℕ) → i < 48 → lowerHex (get_or v i 0) ≡ hexDigit (halfByteOf key i)
+    at : (i : ℕ) → i < 48 → lower_hex (get_or v i 0) ≡ hex_digit (half_byte_of key i)
     at i l = sym (lowered-at v i) ∙ ap (λ (s : List ℕ). get_or s i 0) e ∙ hex-at key i (omega arith)

@@ -11,23 +11,23 @@ use borrow.Author.Tests.{ne_eqb, lt-ltb, not-true}
 use Rattle.laws.specs.Choice.{pick}
 use Rattle.laws.proofs.Cases.{lt-or-le}
 use Rattle.laws.proofs.Tests.{holds}
-use Rattle.algorithms.specs.Algorithm.{name_of, digitOf}
+use Rattle.algorithms.specs.Algorithm.{name_of, digit_of}
 use Rattle.fields.specs.declared.Fields.{Fields}
-use Rattle.writing.specs.Text.{ascii, digits, hexDigit, hexText}
+use Rattle.writing.specs.Text.{ascii, digits, hex_digit, hex_text}
 use Rattle.writing.proofs.Digits.{digits-one, digits-ten, length_some}
 use Rattle.writing.proofs.Puts.{length-hex}
-use Rattle.record_text.specs.Text.{useWord, Good}
+use Rattle.record_text.specs.Text.{use_word, Good}
 use Rattle.lines.specs.Line.{space}
 use Rattle.line_parts.specs.Line.{equals, leading}
-use Rattle.line_names.specs.Names.{nameCount, keyName, isDecimal}
-use Rattle.line_faults.specs.Faults.{zerosIn, isUpperHex, anyUpperHex}
-use Rattle.mends.specs.Damage.{valueSaid}
+use Rattle.line_names.specs.Names.{name_count, key_name, is_decimal}
+use Rattle.line_faults.specs.Faults.{zeros_in, is_upper_hex, any_upper_hex}
+use Rattle.mends.specs.Damage.{value_said}
 use Rattle.mends.proofs.Bytes.{every, both_true, every_append, front-is}
-use Rattle.mends.proofs.OneLine.{isMark}
+use Rattle.mends.proofs.OneLine.{is_mark}
 use Rattle.mends.proofs.Values.{InForm}
 
 -- what holds of 0 to 9 holds of the number of each name
-pub below-ten : (P : ℕ → Type 0) → P 0 → P 1 → P 2 → P 3 → P 4 → P 5 → P 6 → P 7 → P 8 → P 9 → (k : ℕ) → k < nameCount → P k
+pub below-ten : (P : ℕ → Type 0) → P 0 → P 1 → P 2 → P 3 → P 4 → P 5 → P 6 → P 7 → P 8 → P 9 → (k : ℕ) → k < name_count → P k
 below-ten P a b c d e f g h i j zero l = a
 below-ten P a b c d e f g h i j (suc zero) l = b
 below-ten P a b c d e f g h i j (suc (suc zero)) l = c
@@ -42,15 +42,15 @@ below-ten P a b c d e f g h i j (suc (suc (suc (suc (suc (suc (suc (suc (suc (su
 
 -- numbers
 
-digit-mark : (n : ℕ) → n < 10 → isMark (48 + n) ≡ true
+digit-mark : (n : ℕ) → n < 10 → is_mark (48 + n) ≡ true
 digit-mark n h = both_true (lt-ltb space (48 + n) (omega arith)) (ap not (ne_eqb (48 + n) equals (λ z. omega arith)))
 
-pub digits-marks : (k n : ℕ) → n ≤ k → every isMark (digits n) ≡ true
+pub digits-marks : (k n : ℕ) → n ≤ k → every is_mark (digits n) ≡ true
 digits-marks zero n h = rw (digits-one n (omega arith)) (both_true (digit-mark n (omega arith)) refl)
 digits-marks (suc k) n h =
     ⊎_elim (λ l. rw (digits-one n l) (both_true (digit-mark n l) refl))
     (λ l. rw (digits-ten n l)
-    (every_append isMark (digits (n / 10)) ((48 + n % 10) ∷ []) (digits-marks k (n / 10) (omega arith)) (both_true (digit-mark (n % 10) (omega arith)) refl)))
+    (every_append is_mark (digits (n / 10)) ((48 + n % 10) ∷ []) (digits-marks k (n / 10) (omega arith)) (both_true (digit-mark (n % 10) (omega arith)) refl)))
     (lt-or-le n 10)
 
 leading-front : (b : ℕ) (s t : List ℕ) → 0 < length s → leading b s ≡ 0 → leading b (s ++ t) ≡ 0
@@ -71,8 +71,8 @@ no-zero-first (suc k) n h g =
     (λ l. rw (digits-ten n l) (leading-front 48 (digits (n / 10)) _ (length_some (n / 10)) (no-zero-first k (n / 10) (omega arith) (omega arith))))
     (lt-or-le n 10)
 
-pub no-zeros-more : (n : ℕ) → zerosIn (digits n) ≡ 0
-unfolding zerosIn leading
+pub no-zeros-more : (n : ℕ) → zeros_in (digits n) ≡ 0
+unfolding zeros_in leading
 no-zeros-more n =
     ⊎_elim (λ l. rw (digits-one n l))
     (λ l. rw (digits-ten n l)
@@ -80,29 +80,29 @@ no-zeros-more n =
     (lt-or-le n 10)
 
 -- what is no key
-no_key : (k : ℕ) (v : List ℕ) → eqb k keyName ≡ false → eqb k keyName ≡ true → anyUpperHex v ≡ false
+no_key : (k : ℕ) (v : List ℕ) → eqb k key_name ≡ false → eqb k key_name ≡ true → any_upper_hex v ≡ false
 no_key k v n e = absurd (false≢true (sym n ∙ e))
 
-number-form : (k n : ℕ) → eqb k keyName ≡ false → InForm k (digits n)
+number-form : (k n : ℕ) → eqb k key_name ≡ false → InForm k (digits n)
 number-form k n other =
     record { some = length_some n; marks = digits-marks n n (omega arith); number = λ _. no-zeros-more n; hex = no_key k (digits n) other }
 
 -- words
 
-word-form : (k : ℕ) (v : List ℕ) → 0 < length v → every isMark v ≡ true → isDecimal k ≡ false → eqb k keyName ≡ false → InForm k v
+word-form : (k : ℕ) (v : List ℕ) → 0 < length v → every is_mark v ≡ true → is_decimal k ≡ false → eqb k key_name ≡ false → InForm k v
 word-form k v s m d other = record { some = s; marks = m; number = λ e. absurd (false≢true (sym d ∙ e)); hex = no_key k v other }
 
 pub name-form : (a : ℕ) → InForm 3 (name_of a)
-unfolding name_of digitOf isDecimal
+unfolding name_of digit_of is_decimal
 name-form a = word-form 3 (name_of a) (omega arith) (go (eqb a 5) (eqb a 6)) refl refl
   where
-    go : (x y : Bool) → every isMark (84 ∷ 69 ∷ 65 ∷ pick x 53 (pick y 54 55) ∷ []) ≡ true
+    go : (x y : Bool) → every is_mark (84 ∷ 69 ∷ 65 ∷ pick x 53 (pick y 54 55) ∷ []) ≡ true
     go true y = refl
     go false true = refl
     go false false = refl
 
-pub use-form : (u : ℕ) → InForm 4 (useWord u)
-unfolding useWord isDecimal
+pub use-form : (u : ℕ) → InForm 4 (use_word u)
+unfolding use_word is_decimal
 use-form u = go (eqb u 1) (eqb u 2)
   where
     go : (x y : Bool) → InForm 4 (pick x (ascii "SEND") (pick y (ascii "RECV") (ascii "BOTH")))
@@ -112,33 +112,33 @@ use-form u = go (eqb u 1) (eqb u 2)
 
 -- the key
 
-hex-mark : (d : ℕ) → d < 16 → isMark (hexDigit d) ≡ true
-unfolding hexDigit
-hex-mark d h = holds (λ d. isMark (hexDigit d)) 0 16 tt d zero-le h
+hex-mark : (d : ℕ) → d < 16 → is_mark (hex_digit d) ≡ true
+unfolding hex_digit
+hex-mark d h = holds (λ d. is_mark (hex_digit d)) 0 16 tt d zero-le h
 
-hex-lower : (d : ℕ) → d < 16 → isUpperHex (hexDigit d) ≡ false
-unfolding hexDigit isUpperHex
-hex-lower d h = not-true (isUpperHex (hexDigit d)) (holds (λ d. not (isUpperHex (hexDigit d))) 0 16 tt d zero-le h)
+hex-lower : (d : ℕ) → d < 16 → is_upper_hex (hex_digit d) ≡ false
+unfolding hex_digit is_upper_hex
+hex-lower d h = not-true (is_upper_hex (hex_digit d)) (holds (λ d. not (is_upper_hex (hex_digit d))) 0 16 tt d zero-le h)
 
 abbrev AreBytes : List ℕ → Type 0
 AreBytes key = (i : ℕ) → get_or key i 0 < 256
 
-key-marks : (key : List ℕ) → AreBytes key → every isMark (hexText key) ≡ true
-unfolding hexText
+key-marks : (key : List ℕ) → AreBytes key → every is_mark (hex_text key) ≡ true
+unfolding hex_text
 key-marks [] h = refl
 key-marks (b ∷ key) h =
     let l = h 0 in
     both_true (hex-mark (b / 16) (omega arith)) (both_true (hex-mark (b % 16) (omega arith)) (key-marks key (λ i. h (suc i))))
 
-pub key-lower : (key : List ℕ) → AreBytes key → anyUpperHex (hexText key) ≡ false
-unfolding hexText anyUpperHex
+pub key-lower : (key : List ℕ) → AreBytes key → any_upper_hex (hex_text key) ≡ false
+unfolding hex_text any_upper_hex
 key-lower [] h = refl
 key-lower (b ∷ key) h =
     let l = h 0 in
     λ i. hex-lower (b / 16) (omega arith) i || (hex-lower (b % 16) (omega arith) i || key-lower key (λ i. h (suc i)) i)
 
-pub key-form : (key : List ℕ) → length key ≡ 24 → AreBytes key → InForm 9 (hexText key)
-unfolding isDecimal
+pub key-form : (key : List ℕ) → length key ≡ 24 → AreBytes key → InForm 9 (hex_text key)
+unfolding is_decimal
 key-form key n h =
     record {
       some = omega (arith, length-hex key);
@@ -148,11 +148,11 @@ key-form key n h =
     }
 
 -- so each value is in form
-pub values-in-form : (two : Bool) (number : ℕ) (f : Fields) (key : List ℕ) → Good two number f key → (k : ℕ) → k < nameCount
-    → InForm k (valueSaid number f key k)
-unfolding valueSaid zerosIn leading
+pub values-in-form : (two : Bool) (number : ℕ) (f : Fields) (key : List ℕ) → Good two number f key → (k : ℕ) → k < name_count
+    → InForm k (value_said number f key k)
+unfolding value_said zeros_in leading
 values-in-form two number f key g =
-    below-ten (λ k. InForm k (valueSaid number f key k))
+    below-ten (λ k. InForm k (value_said number f key k))
     (record { some = omega arith; marks = refl; number = λ _. refl; hex = λ e. absurd (false≢true e) })
     (number-form 1 number refl)
     (number-form 2 f.version refl)

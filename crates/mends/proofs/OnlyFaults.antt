@@ -16,14 +16,14 @@ use Rattle.refusals.specs.Numbers.{done}
 use Rattle.writing.specs.Text.{lf}
 use Rattle.record_text.specs.Text.{Good}
 use Rattle.records.proofs.Promises.{of-form}
-use Rattle.line_parts.specs.Line.{hasEquals, nameIn}
-use Rattle.line_names.specs.Names.{nameText, nameCount, numberIn, hasName}
-use Rattle.sheet_faults.specs.Sheet.{lines_of, timesNamed, isFormTwo, namesRight, mostBytes}
-use Rattle.mended_text.specs.Text.{textMended}
-use Rattle.mending.specs.Answer.{mendRefusal}
+use Rattle.line_parts.specs.Line.{has_equals, name_in}
+use Rattle.line_names.specs.Names.{name_text, name_count, number_in, has_name}
+use Rattle.sheet_faults.specs.Sheet.{lines_of, times_named, is_form_two, names_right, most_bytes}
+use Rattle.mended_text.specs.Text.{text_mended}
+use Rattle.mending.specs.Answer.{mend_refusal}
 use Rattle.mends.specs.Accepted.{GoodText, AcceptedSheet}
-use Rattle.mends.specs.Damage.{valueSaid, namesFrom, namesOfForm, OfForm, lineDamaged, sheetDamaged, MadeFrom}
-use Rattle.mends.specs.Kept.{joinedLines}
+use Rattle.mends.specs.Damage.{value_said, names_from, names_of_form, OfForm, line_damaged, sheet_damaged, MadeFrom}
+use Rattle.mends.specs.Kept.{joined_lines}
 use Rattle.mends.proofs.Bytes.{every, both_true}
 use Rattle.mends.proofs.Orders.{count_of, counted-order, count-above}
 use Rattle.mends.proofs.Printed.{accepted}
@@ -31,28 +31,28 @@ use Rattle.mends.proofs.Names.{numbered, number-top}
 use Rattle.mends.proofs.BadNames.{RightSheet, right-sheet, right-times}
 use Rattle.mends.proofs.Wholes.{lines-joined}
 use Rattle.mends.proofs.Kept.{line-said, gained-zero}
-use Rattle.mends.proofs.Parts.{damageOf, line_made}
+use Rattle.mends.proofs.Parts.{damage_of, line_made}
 use Rattle.mends.proofs.Damaged.{damaged-accepted}
 use Rattle.mends.proofs.Wanted.{named-once}
 
 -- a line that has a name has an `=`
-name-some : (k : ℕ) → k < nameCount → ltb 0 (length (nameText k)) ≡ true
-unfolding nameText
-name-some k h = holds (λ k. ltb 0 (length (nameText k))) 0 nameCount tt k zero-le h
+name-some : (k : ℕ) → k < name_count → ltb 0 (length (name_text k)) ≡ true
+unfolding name_text
+name-some k h = holds (λ k. ltb 0 (length (name_text k))) 0 name_count tt k zero-le h
 
-named-equals : (line : List ℕ) (k : ℕ) → k < nameCount → nameIn line ≡ nameText k → hasEquals line ≡ true
-unfolding nameIn
-named-equals line k h e = go (hasEquals line) _ e
+named-equals : (line : List ℕ) (k : ℕ) → k < name_count → name_in line ≡ name_text k → has_equals line ≡ true
+unfolding name_in
+named-equals line k h e = go (has_equals line) _ e
   where
-    go : (t : Bool) (name : List ℕ) → pick t name [] ≡ nameText k → t ≡ true
+    go : (t : Bool) (name : List ℕ) → pick t name [] ≡ name_text k → t ≡ true
     go true name e = refl
     go false name e = absurd (false≢true (ap (λ (s : List ℕ). ltb 0 (length s)) e ∙ name-some k h))
 
 -- lines that are made so, one after the other
 lines-made : (values : ℕ → List ℕ) (lines : List (List ℕ))
-    → ((i : ℕ) → i < length lines → lineDamaged values (damageOf (get_or lines i [])) ≡ get_or lines i [])
-    → joinedLines lines ≡ sheetDamaged values (map damageOf lines)
-unfolding joinedLines sheetDamaged
+    → ((i : ℕ) → i < length lines → line_damaged values (damage_of (get_or lines i [])) ≡ get_or lines i [])
+    → joined_lines lines ≡ sheet_damaged values (map damage_of lines)
+unfolding joined_lines sheet_damaged
 lines-made values [] made = refl
 lines-made values (line ∷ lines) made =
     λ j. sym (made 0 (omega arith)) j ++ (lf ∷ lines-made values lines (λ i h. made (suc i) (omega arith)) j)
@@ -60,29 +60,29 @@ lines-made values (line ∷ lines) made =
 -- their names are counted as the sheet's are
 
 abbrev names : List (List ℕ) → List ℕ
-names lines = map (λ d. d.name) (map damageOf lines)
+names lines = map (λ d. d.name) (map damage_of lines)
 
-names-counted : (k : ℕ) (lines : List (List ℕ)) → count_of k (names lines) ≡ timesNamed k lines
-unfolding timesNamed
+names-counted : (k : ℕ) (lines : List (List ℕ)) → count_of k (names lines) ≡ times_named k lines
+unfolding times_named
 names-counted k [] = refl
-names-counted k (line ∷ lines) = ap (λ (n : ℕ). pick (eqb (numberIn line) k) 1 0 + n) (names-counted k lines)
+names-counted k (line ∷ lines) = ap (λ (n : ℕ). pick (eqb (number_in line) k) 1 0 + n) (names-counted k lines)
 
-names-low : (lines : List (List ℕ)) → every (λ x. ltb x (nameCount + 1)) (names lines) ≡ true
+names-low : (lines : List (List ℕ)) → every (λ x. ltb x (name_count + 1)) (names lines) ≡ true
 names-low [] = refl
-names-low (line ∷ lines) = both_true (lt-ltb (numberIn line) (nameCount + 1) (number-top (nameIn line))) (names-low lines)
+names-low (line ∷ lines) = both_true (lt-ltb (number_in line) (name_count + 1) (number-top (name_in line))) (names-low lines)
 
-form-low : (two : Bool) → every (λ x. ltb x (nameCount + 1)) (namesOfForm two) ≡ true
-unfolding namesFrom hasName
+form-low : (two : Bool) → every (λ x. ltb x (name_count + 1)) (names_of_form two) ≡ true
+unfolding names_from has_name
 form-low true = refl
 form-low false = refl
 
-any_order : (lines : List (List ℕ)) → namesRight lines ≡ true → OfForm (isFormTwo lines) (map damageOf lines)
+any_order : (lines : List (List ℕ)) → names_right lines ≡ true → OfForm (is_form_two lines) (map damage_of lines)
 any_order lines e =
-    let two = isFormTwo lines in
-    counted-order (namesOfForm two) (names lines)
+    let two = is_form_two lines in
+    counted-order (names_of_form two) (names lines)
     (λ k. ⊎_elim (λ l. named-once two k l ∙ sym (right-times lines e k l) ∙ sym (names-counted k lines))
-    (λ l. count-above (nameCount + 1) k (namesOfForm two) l (form-low two) ∙ sym (count-above (nameCount + 1) k (names lines) l (names-low lines)))
-    (lt-or-le k (nameCount + 1)))
+    (λ l. count-above (name_count + 1) k (names_of_form two) l (form-low two) ∙ sym (count-above (name_count + 1) k (names lines) l (names-low lines)))
+    (lt-or-le k (name_count + 1)))
 
 -- so an accepted text is a good record with these faults
 made-from : (text : List ℕ) → AcceptedSheet text → MadeFrom text
@@ -93,12 +93,12 @@ made-from text a =
       fields = m.fields;
       key = m.key;
       good = good two refl;
-      lines = map damageOf lines;
+      lines = map damage_of lines;
       order = any_order lines r.names;
-      is = sym (lines-joined text r.ended) ∙ lines-made (valueSaid m.number m.fields m.key) lines made;
+      is = sym (lines-joined text r.ended) ∙ lines-made (value_said m.number m.fields m.key) lines made;
     }
   where
-    m : GoodText (textMended (lines_of text))
+    m : GoodText (text_mended (lines_of text))
     m = a.mended
 
     r : RightSheet text
@@ -108,25 +108,25 @@ made-from text a =
     lines = lines_of text
 
     two : Bool
-    two = isFormTwo lines
+    two = is_form_two lines
 
     good : (t : Bool) → two ≡ t → Good t m.number m.fields m.key
     good true e = m.good
     good false e = let z = gained-zero text a e in of-form true false m.good z.0 z.1
 
-    made : (i : ℕ) → i < length lines → lineDamaged (valueSaid m.number m.fields m.key) (damageOf (get_or lines i [])) ≡ get_or lines i []
+    made : (i : ℕ) → i < length lines → line_damaged (value_said m.number m.fields m.key) (damage_of (get_or lines i [])) ≡ get_or lines i []
     made i h =
         let line = get_or lines i [] in
         let s = line-said text a i h in
-        let named : nameIn line ≡ nameText (numberIn line) = numbered (nameIn line) s.0 in
-        line_made line (named-equals line (numberIn line) s.0 named) (valueSaid m.number m.fields m.key) named s.1
+        let named : name_in line ≡ name_text (number_in line) = numbered (name_in line) s.0 in
+        line_made line (named-equals line (number_in line) s.0 named) (value_said m.number m.fields m.key) named s.1
 
-pub exactly-these : (text : List ℕ) → (mendRefusal text ≡ done) ↔ (MadeFrom text × (length text ≤ mostBytes))
+pub exactly-these : (text : List ℕ) → (mend_refusal text ≡ done) ↔ (MadeFrom text × (length text ≤ most_bytes))
 exactly-these text = (
   λ e. let a = accepted text e in (made-from text a, (right-sheet text a.names).short),
   λ o.
       let m = o.0 in
-      let size : length (sheetDamaged (valueSaid m.number m.fields m.key) m.lines) ≤ mostBytes =
-      subst (λ (t : List ℕ). length t ≤ mostBytes) m.is o.1 in
-      ap mendRefusal m.is ∙ damaged-accepted m.two m.number m.fields m.key m.good m.lines m.order size,
+      let size : length (sheet_damaged (value_said m.number m.fields m.key) m.lines) ≤ most_bytes =
+      subst (λ (t : List ℕ). length t ≤ most_bytes) m.is o.1 in
+      ap mend_refusal m.is ∙ damaged-accepted m.two m.number m.fields m.key m.good m.lines m.order size,
 )

@@ -10,8 +10,8 @@ use lib.Dec.{eqb, ltb, leb}
 use borrow.Author.Tests.{eq-eqb, ne_eqb, eqb-true, leb-true, le-leb, ltb-true}
 use Rattle.laws.specs.Choice.{pick}
 use Rattle.laws.proofs.Cases.{and_left, and_right, eq-or-ne}
-use Rattle.line_names.specs.Names.{hasName, sameText}
-use Rattle.mends.specs.Damage.{namesFrom, namesOfForm}
+use Rattle.line_names.specs.Names.{has_name, same_text}
+use Rattle.mends.specs.Damage.{names_from, names_of_form}
 use Rattle.mends.proofs.Bytes.{every, both_true}
 
 -- how often a number occurs
@@ -81,18 +81,18 @@ count-above n k (x ∷ l) h e =
 
 -- texts that are the same
 
-pub same_self : (s : List ℕ) → sameText s s ≡ true
-unfolding sameText
+pub same_self : (s : List ℕ) → same_text s s ≡ true
+unfolding same_text
 same_self [] = refl
 same_self (x ∷ s) = both_true (eq-eqb x x refl) (same_self s)
 
-pub same-is : (s t : List ℕ) → sameText s t ≡ true → s ≡ t
-unfolding sameText
+pub same-is : (s t : List ℕ) → same_text s t ≡ true → s ≡ t
+unfolding same_text
 same-is [] [] e = refl
 same-is [] (y ∷ t) e = absurd (false≢true e)
 same-is (x ∷ s) [] e = absurd (false≢true e)
 same-is (x ∷ s) (y ∷ t) e =
-    λ i. eqb-true x y (and_left (eqb x y) (sameText s t) e) i ∷ same-is s t (and_right (eqb x y) (sameText s t) e) i
+    λ i. eqb-true x y (and_left (eqb x y) (same_text s t) e) i ∷ same-is s t (and_right (eqb x y) (same_text s t) e) i
 
 -- numbers that rise, from k on
 abbrev pub rises : ℕ → List ℕ → Bool
@@ -107,14 +107,14 @@ rises-above k j (x ∷ l) e h =
     count-other x j l (λ z. omega arith)
     ∙ rises-above (x + 1) j l (and_right (leb k x) (rises (x + 1) l) e) (omega arith)
 
-names-above : (two : Bool) (k n j : ℕ) → j < k → count_of j (namesFrom two k n) ≡ 0
-unfolding namesFrom
+names-above : (two : Bool) (k n j : ℕ) → j < k → count_of j (names_from two k n) ≡ 0
+unfolding names_from
 names-above two k zero j h = refl
-names-above two k (suc n) j h = go (hasName two k) (names-above two (k + 1) n j (omega arith))
+names-above two k (suc n) j h = go (has_name two k) (names-above two (k + 1) n j (omega arith))
   where
-    go : (t : Bool) → count_of j (namesFrom two (k + 1) n) ≡ 0
-        → count_of j (pick t (k ∷ namesFrom two (k + 1) n) (namesFrom two (k + 1) n)) ≡ 0
-    go true r = count-other k j (namesFrom two (k + 1) n) (λ z. omega arith) ∙ r
+    go : (t : Bool) → count_of j (names_from two (k + 1) n) ≡ 0
+        → count_of j (pick t (k ∷ names_from two (k + 1) n) (names_from two (k + 1) n)) ≡ 0
+    go true r = count-other k j (names_from two (k + 1) n) (λ z. omega arith) ∙ r
     go false r = r
 
 no_number : (l : List ℕ) → ((j : ℕ) → count_of j l ≡ 0) → l ≡ []
@@ -122,13 +122,13 @@ no_number [] e = refl
 no_number (x ∷ l) e = absurd (omega (arith, e x, count-self x l))
 
 -- numbers that rise and occur as often as those of the form are those of the form
-rising-is : (two : Bool) (n k : ℕ) (l : List ℕ) → rises k l ≡ true → ((j : ℕ) → count_of j l ≡ count_of j (namesFrom two k n)) → l ≡ namesFrom two k n
-unfolding namesFrom
+rising-is : (two : Bool) (n k : ℕ) (l : List ℕ) → rises k l ≡ true → ((j : ℕ) → count_of j l ≡ count_of j (names_from two k n)) → l ≡ names_from two k n
+unfolding names_from
 rising-is two zero k l e c = no_number l c
-rising-is two (suc n) k l e c = go (hasName two k) l e c (λ m. rising-is two n (k + 1) m)
+rising-is two (suc n) k l e c = go (has_name two k) l e c (λ m. rising-is two n (k + 1) m)
   where
     rest : List ℕ
-    rest = namesFrom two (k + 1) n
+    rest = names_from two (k + 1) n
 
     go : (t : Bool) (l : List ℕ) → rises k l ≡ true → ((j : ℕ) → count_of j l ≡ count_of j (pick t (k ∷ rest) rest))
         → ((m : List ℕ) → rises (k + 1) m ≡ true → ((j : ℕ) → count_of j m ≡ count_of j rest) → m ≡ rest)
@@ -166,19 +166,19 @@ rising-is two (suc n) k l e c = go (hasName two k) l e c (λ m. rising-is two n 
             least : (x ≡ k → ⊥) → k ≤ x → k + 1 ≤ x
             least n h = omega arith
 
-names-rise : (two : Bool) → rises 0 (namesOfForm two) ≡ true
-unfolding namesFrom hasName
+names-rise : (two : Bool) → rises 0 (names_of_form two) ≡ true
+unfolding names_from has_name
 names-rise true = refl
 names-rise false = refl
 
 -- names of a form rise where they stand in its order
-pub rise-or-not : (two : Bool) (l : List ℕ) → Permᴰ (namesOfForm two) l → rises 0 l ≡ sameText l (namesOfForm two)
+pub rise-or-not : (two : Bool) (l : List ℕ) → Permᴰ (names_of_form two) l → rises 0 l ≡ same_text l (names_of_form two)
 rise-or-not two l p = go (rises 0 l) refl
   where
-    go : (t : Bool) → rises 0 l ≡ t → t ≡ sameText l (namesOfForm two)
-    go true e = sym (ap (λ (m : List ℕ). sameText m (namesOfForm two)) (rising-is two 10 0 l e (λ j. sym (count-order p j))) ∙ same_self (namesOfForm two))
-    go false e = other (sameText l (namesOfForm two)) refl
+    go : (t : Bool) → rises 0 l ≡ t → t ≡ same_text l (names_of_form two)
+    go true e = sym (ap (λ (m : List ℕ). same_text m (names_of_form two)) (rising-is two 10 0 l e (λ j. sym (count-order p j))) ∙ same_self (names_of_form two))
+    go false e = other (same_text l (names_of_form two)) refl
       where
-        other : (t : Bool) → sameText l (namesOfForm two) ≡ t → false ≡ t
-        other true s = sym e ∙ ap (rises 0) (same-is l (namesOfForm two) s) ∙ names-rise two
+        other : (t : Bool) → same_text l (names_of_form two) ≡ t → false ≡ t
+        other true s = sym e ∙ ap (rises 0) (same-is l (names_of_form two) s) ∙ names-rise two
         other false s = refl

@@ -11,16 +11,16 @@ use borrow.Author.Tests.{leb-true, le-leb}
 use Rattle.laws.specs.Choice.{pick}
 use Rattle.fields.specs.declared.Fields.{Fields}
 use Rattle.fields.proofs.Ranges.{between-low, between-high}
-use Rattle.writing.specs.Text.{ascii, digits, digitsWithin}
+use Rattle.writing.specs.Text.{ascii, digits, digits_within}
 use Rattle.forms.proofs.Decimals.{between_is}
 use Rattle.record_text.specs.Text.{Good}
-use Rattle.line_parts.specs.Line.{valueIn}
-use Rattle.line_names.specs.Names.{nameCount, hasName}
-use Rattle.sheet_faults.specs.Sheet.{lines_of, timesNamed, valueNamed, isFormTwo, sheetBad}
-use Rattle.mended_text.specs.Text.{mendedValue, gained, valueMended, textMended}
-use Rattle.mending.specs.Answer.{mendRefusal, sheetValueBad}
+use Rattle.line_parts.specs.Line.{value_in}
+use Rattle.line_names.specs.Names.{name_count, has_name}
+use Rattle.sheet_faults.specs.Sheet.{lines_of, times_named, value_named, is_form_two, sheet_bad}
+use Rattle.mended_text.specs.Text.{mended_value, gained, value_mended, text_mended}
+use Rattle.mending.specs.Answer.{mend_refusal, sheet_value_bad}
 use Rattle.mends.specs.Accepted.{GoodText, AcceptedSheet}
-use Rattle.mends.specs.Damage.{valueSaid}
+use Rattle.mends.specs.Damage.{value_said}
 use Rattle.mends.specs.Refused.{BadSheet, NumberIn, GoodValue, BadValue}
 use Rattle.mends.proofs.GoodValues.{below-ten}
 use Rattle.mends.proofs.Clean.{mended-clean, record-clean}
@@ -34,10 +34,10 @@ use Rattle.mends.proofs.GoodOrNot.{decided, all-or-some}
 
 -- the values of a good record are good, and good values make one
 
-good-said : (number : ℕ) (f : Fields) (key : List ℕ) → Good true number f key → (k : ℕ) → k < nameCount → GoodValue k (valueSaid number f key k)
-unfolding valueSaid
+good-said : (number : ℕ) (f : Fields) (key : List ℕ) → Good true number f key → (k : ℕ) → k < name_count → GoodValue k (value_said number f key k)
+unfolding value_said
 good-said number f key g =
-    below-ten (λ k. GoodValue k (valueSaid number f key k)) refl
+    below-ten (λ k. GoodValue k (value_said number f key k)) refl
     (record { thing = number; fits = (between-low 1 number 32 g.slot, between-high 1 number 32 g.slot); is = refl })
     (record { thing = f.version; fits = (omega arith, g.version); is = refl })
     (record { thing = f.algorithm; fits = g.algorithm; is = refl })
@@ -48,7 +48,7 @@ good-said number f key g =
     (record { thing = f.mnc; fits = (omega arith, g.mnc); is = refl })
     (record { thing = key; fits = (g.size, g.bytes); is = refl })
 
-module _ (lines : List (List ℕ)) (all : (k : ℕ) → k < nameCount → GoodValue k (valueMended (isFormTwo lines) lines k)) where
+module _ (lines : List (List ℕ)) (all : (k : ℕ) → k < name_count → GoodValue k (value_mended (is_form_two lines) lines k)) where
   abbrev fields : Fields
   fields =
       record {
@@ -61,8 +61,8 @@ module _ (lines : List (List ℕ)) (all : (k : ℕ) → k < nameCount → GoodVa
         mnc = (all 8 (omega arith)).thing;
       }
 
-  good-made : GoodText (textMended lines)
-  unfolding textMended valueSaid
+  good-made : GoodText (text_mended lines)
+  unfolding text_mended value_said
   good-made =
       let n = all 1 (omega arith) in
       let k = all 9 (omega arith) in
@@ -85,12 +85,12 @@ module _ (lines : List (List ℕ)) (all : (k : ℕ) → k < nameCount → GoodVa
               size = k.fits.0;
               bytes = k.fits.1;
             };
-        is = mended-clean (valueSaid n.thing fields k.thing) (isFormTwo lines) lines same nameCount 0 (omega arith) ∙ record-clean true n.thing fields k.thing;
+        is = mended-clean (value_said n.thing fields k.thing) (is_form_two lines) lines same name_count 0 (omega arith) ∙ record-clean true n.thing fields k.thing;
       }
     where
-      same : (k : ℕ) → k < nameCount → valueMended (isFormTwo lines) lines k ≡ valueSaid (all 1 (omega arith)).thing fields (all 9 (omega arith)).thing k
+      same : (k : ℕ) → k < name_count → value_mended (is_form_two lines) lines k ≡ value_said (all 1 (omega arith)).thing fields (all 9 (omega arith)).thing k
       same =
-          below-ten (λ k. valueMended (isFormTwo lines) lines k ≡ valueSaid (all 1 (omega arith)).thing fields (all 9 (omega arith)).thing k)
+          below-ten (λ k. value_mended (is_form_two lines) lines k ≡ value_said (all 1 (omega arith)).thing fields (all 9 (omega arith)).thing k)
           (all 0 (omega arith))
           (all 1 (omega arith)).is
           (all 2 (omega arith)).is
@@ -103,49 +103,49 @@ module _ (lines : List (List ℕ)) (all : (k : ℕ) → k < nameCount → GoodVa
           (all 9 (omega arith)).is
 
 -- what form 1 gains is good
-gained-good : (two : Bool) (k : ℕ) → k < nameCount → hasName two k ≡ false → GoodValue k (gained k)
-unfolding hasName gained digits digitsWithin
+gained-good : (two : Bool) (k : ℕ) → k < name_count → has_name two k ≡ false → GoodValue k (gained k)
+unfolding has_name gained digits digits_within
 gained-good true k h e = absurd (true≢false (sym (has_all k h) ∙ e))
 gained-good false k h e =
     let zero-good : (high : ℕ) → NumberIn 0 high (ascii "0") = λ high. record { thing = 0; fits = (omega arith, omega arith); is = refl } in
-    below-ten (λ k. hasName false k ≡ false → GoodValue k (gained k)) (λ _. refl) there there there there there there
+    below-ten (λ k. has_name false k ≡ false → GoodValue k (gained k)) (λ _. refl) there there there there there there
     (λ _. zero-good 1023) (λ _. zero-good 16383) there k h e
   where
     there : {A : Type 0} → ◌≡◌ {A = Bool} true false → A
     there z = absurd (true≢false z)
 
 -- so a value that is not good stands in a line
-bad-line : (text : List ℕ) → sheetBad text ≡ false → (k : ℕ) → k < nameCount
-    → (GoodValue k (valueMended (isFormTwo (lines_of text)) (lines_of text) k) → ⊥) → BadValue (lines_of text)
-unfolding valueMended
-bad-line text e k h n = go (hasName (isFormTwo lines) k) refl
+bad-line : (text : List ℕ) → sheet_bad text ≡ false → (k : ℕ) → k < name_count
+    → (GoodValue k (value_mended (is_form_two (lines_of text)) (lines_of text) k) → ⊥) → BadValue (lines_of text)
+unfolding value_mended
+bad-line text e k h n = go (has_name (is_form_two lines) k) refl
   where
     lines : List (List ℕ)
     lines = lines_of text
 
     chosen : Bool → List ℕ
-    chosen t = pick t (mendedValue k (valueNamed k lines)) (gained k)
+    chosen t = pick t (mended_value k (value_named k lines)) (gained k)
 
-    go : (t : Bool) → hasName (isFormTwo lines) k ≡ t → BadValue lines
-    go false w = absurd (n (subst (λ (t : Bool). GoodValue k (chosen t)) (sym w) (gained-good (isFormTwo lines) k h w)))
+    go : (t : Bool) → has_name (is_form_two lines) k ≡ t → BadValue lines
+    go false w = absurd (n (subst (λ (t : Bool). GoodValue k (chosen t)) (sym w) (gained-good (is_form_two lines) k h w)))
     go true w =
-        let once : timesNamed k lines ≡ 1 = right-times lines (right-sheet text e).names k (omega arith) ∙ ap (λ (t : Bool). pick t 1 0) w in
+        let once : times_named k lines ≡ 1 = right-times lines (right-sheet text e).names k (omega arith) ∙ ap (λ (t : Bool). pick t 1 0) w in
         let o = some-place k lines (omega arith) in
         record {
           place = o.place;
           within = o.within;
           none = λ g.
               n (subst (λ (t : Bool). GoodValue k (chosen t)) (sym w)
-              (subst (λ (v : List ℕ). GoodValue k (mendedValue k v)) (sym (value_there k lines o.place o.within o.is once))
-              (subst (λ (m : ℕ). GoodValue m (mendedValue m (valueIn (get_or lines o.place [])))) o.is g)));
+              (subst (λ (v : List ℕ). GoodValue k (mended_value k v)) (sym (value_there k lines o.place o.within o.is once))
+              (subst (λ (m : ℕ). GoodValue m (mended_value m (value_in (get_or lines o.place [])))) o.is g)));
         }
 
-some-bad-line : (text : List ℕ) → sheetBad text ≡ false → (GoodText (textMended (lines_of text)) → ⊥) → BadValue (lines_of text)
+some-bad-line : (text : List ℕ) → sheet_bad text ≡ false → (GoodText (text_mended (lines_of text)) → ⊥) → BadValue (lines_of text)
 some-bad-line text e n =
-    let two = isFormTwo (lines_of text) in
+    let two = is_form_two (lines_of text) in
     ⊎_elim (λ all. absurd (n (good-made (lines_of text) all))) (λ o. bad-line text e o.0 o.1 o.2)
-    (all-or-some (λ k. GoodValue k (valueMended two (lines_of text) k))
-    (λ k h. decided k h (valueMended two (lines_of text) k) (values-whole two (lines_of text) k (lines-whole text))) nameCount (omega arith))
+    (all-or-some (λ k. GoodValue k (value_mended two (lines_of text) k))
+    (λ k h. decided k h (value_mended two (lines_of text) k) (values-whole two (lines_of text) k (lines-whole text))) name_count (omega arith))
 
 no-bad-line : (text : List ℕ) → AcceptedSheet text → BadValue (lines_of text) → ⊥
 no-bad-line text a b =
@@ -154,7 +154,7 @@ no-bad-line text a b =
     b.none (subst (GoodValue (number_at (lines_of text) b.place)) (sym l.1) (good-said m.number m.fields m.key m.good _ l.0))
 
 -- 26: no 25, and a line whose value is out of form or range
-pub out-of-form : (text : List ℕ) → (mendRefusal text ≡ sheetValueBad) ↔ ((BadSheet text → ⊥) × BadValue (lines_of text))
+pub out-of-form : (text : List ℕ) → (mend_refusal text ≡ sheet_value_bad) ↔ ((BadSheet text → ⊥) × BadValue (lines_of text))
 out-of-form text = (
   λ e. let r = (value-refused text).0 e in (r.0, some-bad-line text (no-bad text r.0) r.1),
   λ r. (value-refused text).1 (r.0, λ g. no-bad-line text (record { names = no-bad text r.0; mended = g }) r.1),

@@ -11,11 +11,11 @@ use lib.ListN.{length, take}
 use borrow.Author.Tests.{ltb-true}
 use Rattle.writing.specs.Text.{lf}
 use Rattle.refusals.specs.Numbers.{done, refuse}
-use Rattle.line_parts.specs.Line.{endsWith}
-use Rattle.sheet_faults.specs.Sheet.{lines_of, namesRight, mostBytes, sheetBad}
-use Rattle.mended_text.specs.Text.{textMended}
-use Rattle.mending.specs.Changes.{isRecord}
-use Rattle.mending.specs.Answer.{mendRefusal, sheetNamesBad, sheetValueBad}
+use Rattle.line_parts.specs.Line.{ends_with}
+use Rattle.sheet_faults.specs.Sheet.{lines_of, names_right, most_bytes, sheet_bad}
+use Rattle.mended_text.specs.Text.{text_mended}
+use Rattle.mending.specs.Changes.{is_record}
+use Rattle.mending.specs.Answer.{mend_refusal, sheet_names_bad, sheet_value_bad}
 use Rattle.mends.specs.Accepted.{GoodText}
 use Rattle.mends.specs.Refused.{BadSheet, long, unended, missing, doubled, unknown}
 use Rattle.mends.proofs.Bytes.{ends-after, ends-split}
@@ -23,22 +23,22 @@ use Rattle.mends.proofs.Printed.{accepted, taken, record-is-good, good-is-record
 use Rattle.mends.proofs.BadNames.{RightSheet, right-sheet, NamesBad, names-bad, names-wrong}
 
 -- a text that ends with LF
-front-ended : (front : List ℕ) → endsWith lf (front ++ (lf ∷ [])) ≡ true
-unfolding endsWith
+front-ended : (front : List ℕ) → ends_with lf (front ++ (lf ∷ [])) ≡ true
+unfolding ends_with
 front-ended front = ends-after lf front (lf ∷ []) (omega arith)
 
-pub is-bad : (text : List ℕ) → sheetBad text ≡ true → BadSheet text
-unfolding sheetBad
-is-bad text e = go (ltb mostBytes (length text)) (endsWith lf text) (namesRight (lines_of text)) refl refl refl e
+pub is-bad : (text : List ℕ) → sheet_bad text ≡ true → BadSheet text
+unfolding sheet_bad
+is-bad text e = go (ltb most_bytes (length text)) (ends_with lf text) (names_right (lines_of text)) refl refl refl e
   where
-    go : (l w n : Bool) → ltb mostBytes (length text) ≡ l → endsWith lf text ≡ w → namesRight (lines_of text) ≡ n → l || (not w || not n) ≡ true → BadSheet text
-    go true w n i j k e = long (ltb-true mostBytes (length text) i)
+    go : (l w n : Bool) → ltb most_bytes (length text) ≡ l → ends_with lf text ≡ w → names_right (lines_of text) ≡ n → l || (not w || not n) ≡ true → BadSheet text
+    go true w n i j k e = long (ltb-true most_bytes (length text) i)
     go false false n i j k e =
-        unended (λ front z. let y : ◌≡◌ {A = Bool} true false = sym (front-ended front) ∙ ap (endsWith lf) (sym z) ∙ j in true≢false y)
+        unended (λ front z. let y : ◌≡◌ {A = Bool} true false = sym (front-ended front) ∙ ap (ends_with lf) (sym z) ∙ j in true≢false y)
     go false true true i j k e = absurd (false≢true e)
     go false true false i j k e = ⊎_elim missing (λ o. ⊎_elim doubled unknown o) (names-bad (lines_of text) k)
 
-pub not-bad : (text : List ℕ) → sheetBad text ≡ false → BadSheet text → ⊥
+pub not-bad : (text : List ℕ) → sheet_bad text ≡ false → BadSheet text → ⊥
 not-bad text e b = go b
   where
     r : RightSheet text
@@ -54,28 +54,28 @@ not-bad text e b = go b
     go (doubled d) = names (inr (inl d))
     go (unknown u) = names (inr (inr u))
 
-yes-bad : (text : List ℕ) → BadSheet text → sheetBad text ≡ true
-yes-bad text b = go (sheetBad text) refl
+yes-bad : (text : List ℕ) → BadSheet text → sheet_bad text ≡ true
+yes-bad text b = go (sheet_bad text) refl
   where
-    go : (t : Bool) → sheetBad text ≡ t → t ≡ true
+    go : (t : Bool) → sheet_bad text ≡ t → t ≡ true
     go true e = refl
     go false e = absurd (not-bad text e b)
 
-pub no-bad : (text : List ℕ) → (BadSheet text → ⊥) → sheetBad text ≡ false
-no-bad text n = go (sheetBad text) refl
+pub no-bad : (text : List ℕ) → (BadSheet text → ⊥) → sheet_bad text ≡ false
+no-bad text n = go (sheet_bad text) refl
   where
-    go : (t : Bool) → sheetBad text ≡ t → t ≡ false
+    go : (t : Bool) → sheet_bad text ≡ t → t ≡ false
     go true e = absurd (n (is-bad text e))
     go false e = refl
 
-is-record : (text : List ℕ) → GoodText (textMended (lines_of text)) → isRecord (textMended (lines_of text)) ≡ true
-is-record text g = ap isRecord g.is ∙ good-is-record g.number g.fields g.key g.good
+is-record : (text : List ℕ) → GoodText (text_mended (lines_of text)) → is_record (text_mended (lines_of text)) ≡ true
+is-record text g = ap is_record g.is ∙ good-is-record g.number g.fields g.key g.good
 
-no_record : (text : List ℕ) → (GoodText (textMended (lines_of text)) → ⊥) → isRecord (textMended (lines_of text)) ≡ false
-no_record text n = go (isRecord (textMended (lines_of text))) refl
+no_record : (text : List ℕ) → (GoodText (text_mended (lines_of text)) → ⊥) → is_record (text_mended (lines_of text)) ≡ false
+no_record text n = go (is_record (text_mended (lines_of text))) refl
   where
-    go : (t : Bool) → isRecord (textMended (lines_of text)) ≡ t → t ≡ false
-    go true e = absurd (n (record-is-good (textMended (lines_of text)) (says-form (lines_of text)) e))
+    go : (t : Bool) → is_record (text_mended (lines_of text)) ≡ t → t ≡ false
+    go true e = absurd (n (record-is-good (text_mended (lines_of text)) (says-form (lines_of text)) e))
     go false e = refl
 
 -- THE REFUSALS
@@ -84,9 +84,9 @@ abbrev answer_of : Bool → Bool → ℕ
 answer_of bad good = refuse bad 25 (refuse (not good) 26 0)
 
 -- no text is refused with another number
-pub one_of_three : (text : List ℕ) → (mendRefusal text ≡ done) ⊎ ((mendRefusal text ≡ sheetNamesBad) ⊎ (mendRefusal text ≡ sheetValueBad))
-unfolding mendRefusal
-one_of_three text = go (sheetBad text) (isRecord (textMended (lines_of text)))
+pub one_of_three : (text : List ℕ) → (mend_refusal text ≡ done) ⊎ ((mend_refusal text ≡ sheet_names_bad) ⊎ (mend_refusal text ≡ sheet_value_bad))
+unfolding mend_refusal
+one_of_three text = go (sheet_bad text) (is_record (text_mended (lines_of text)))
   where
     go : (b r : Bool) → (answer_of b r ≡ 0) ⊎ ((answer_of b r ≡ 25) ⊎ (answer_of b r ≡ 26))
     go true r = inr (inl refl)
@@ -94,9 +94,9 @@ one_of_three text = go (sheetBad text) (isRecord (textMended (lines_of text)))
     go false false = inr (inr refl)
 
 -- 25
-pub names-refused : (text : List ℕ) → (mendRefusal text ≡ sheetNamesBad) ↔ BadSheet text
-unfolding mendRefusal
-names-refused text = (λ e. is-bad text (first (sheetBad text) (isRecord (textMended (lines_of text))) e), λ b. rw (yes-bad text b))
+pub names-refused : (text : List ℕ) → (mend_refusal text ≡ sheet_names_bad) ↔ BadSheet text
+unfolding mend_refusal
+names-refused text = (λ e. is-bad text (first (sheet_bad text) (is_record (text_mended (lines_of text))) e), λ b. rw (yes-bad text b))
   where
     first : (b r : Bool) → answer_of b r ≡ 25 → b ≡ true
     first true r e = refl
@@ -104,8 +104,8 @@ names-refused text = (λ e. is-bad text (first (sheetBad text) (isRecord (textMe
     first false false e = absurd (omega arith)
 
 -- 26: no 25, and the mended text is no good record
-pub value-refused : (text : List ℕ) → (mendRefusal text ≡ sheetValueBad) ↔ ((BadSheet text → ⊥) × (GoodText (textMended (lines_of text)) → ⊥))
-unfolding mendRefusal
+pub value-refused : (text : List ℕ) → (mend_refusal text ≡ sheet_value_bad) ↔ ((BadSheet text → ⊥) × (GoodText (text_mended (lines_of text)) → ⊥))
+unfolding mend_refusal
 value-refused text = (there, λ n. rw (no-bad text n.0, no_record text n.1))
   where
     second : (b r : Bool) → answer_of b r ≡ 26 → (b ≡ false) × (r ≡ false)
@@ -113,13 +113,13 @@ value-refused text = (there, λ n. rw (no-bad text n.0, no_record text n.1))
     second false true e = absurd (omega arith)
     second false false e = (refl, refl)
 
-    there : answer_of (sheetBad text) (isRecord (textMended (lines_of text))) ≡ 26 → (BadSheet text → ⊥) × (GoodText (textMended (lines_of text)) → ⊥)
+    there : answer_of (sheet_bad text) (is_record (text_mended (lines_of text))) ≡ 26 → (BadSheet text → ⊥) × (GoodText (text_mended (lines_of text)) → ⊥)
     there e =
-        let s = second (sheetBad text) (isRecord (textMended (lines_of text))) e in
+        let s = second (sheet_bad text) (is_record (text_mended (lines_of text))) e in
         (not-bad text s.0, λ g. true≢false (sym (is-record text g) ∙ s.1))
 
 -- 0: neither
-pub none-refused : (text : List ℕ) → (mendRefusal text ≡ done) ↔ ((BadSheet text → ⊥) × GoodText (textMended (lines_of text)))
+pub none-refused : (text : List ℕ) → (mend_refusal text ≡ done) ↔ ((BadSheet text → ⊥) × GoodText (text_mended (lines_of text)))
 none-refused text = (
   λ e. let a = accepted text e in (not-bad text a.names, a.mended),
   λ n. taken text (record { names = no-bad text n.0; mended = n.1 }),

@@ -12,26 +12,26 @@ use Rattle.laws.specs.Choice.{pick}
 use Rattle.laws.proofs.Cases.{and_left, and_right}
 use Rattle.fields.specs.Fields.{between}
 use Rattle.writing.specs.Text.{ascii, lf}
-use Rattle.lines.specs.Line.{space, indexOf}
-use Rattle.line_parts.specs.Line.{cr, equals, endsWith, leading, bare, afterEquals, valueIn}
-use Rattle.line_names.specs.Names.{formName, keyName, numberIn, isDecimal, hasName}
-use Rattle.line_faults.specs.Faults.{zerosIn, isUpperHex, lowerHex}
-use Rattle.sheet_faults.specs.Sheet.{ontoFirst, lines_of, valueNamed}
-use Rattle.mended_text.specs.Text.{lowered, mendedValue, gained, valueMended}
+use Rattle.lines.specs.Line.{space, index_of}
+use Rattle.line_parts.specs.Line.{cr, equals, ends_with, leading, bare, after_equals, value_in}
+use Rattle.line_names.specs.Names.{form_name, key_name, number_in, is_decimal, has_name}
+use Rattle.line_faults.specs.Faults.{zeros_in, is_upper_hex, lower_hex}
+use Rattle.sheet_faults.specs.Sheet.{onto_first, lines_of, value_named}
+use Rattle.mended_text.specs.Text.{lowered, mended_value, gained, value_mended}
 use Rattle.mended_text.proofs.Laws.{mended-cases}
-use Rattle.mends.proofs.Values.{mendedAs}
-use Rattle.mends.specs.Kept.{joinedLines}
-use Rattle.mends.proofs.Bytes.{every, both_true, isOther, ends-after}
+use Rattle.mends.proofs.Values.{mended_as}
+use Rattle.mends.specs.Kept.{joined_lines}
+use Rattle.mends.proofs.Bytes.{every, both_true, is_other, ends-after}
 
 -- a text without LF
 abbrev pub Whole : List ℕ → Type 0
-Whole s = every (isOther lf) s ≡ true
+Whole s = every (is_other lf) s ≡ true
 
 abbrev pub AllWhole : List (List ℕ) → Type 0
 AllWhole [] = Unit
 AllWhole (line ∷ lines) = Whole line × AllWhole lines
 
-onto-whole : (b : ℕ) (lines : List (List ℕ)) → isOther lf b ≡ true → AllWhole lines → AllWhole (ontoFirst b lines)
+onto-whole : (b : ℕ) (lines : List (List ℕ)) → is_other lf b ≡ true → AllWhole lines → AllWhole (onto_first b lines)
 onto-whole b [] e w = (both_true e refl, tt)
 onto-whole b (line ∷ lines) e w = (both_true e w.0, w.1)
 
@@ -40,14 +40,14 @@ unfolding lines_of
 lines-whole [] = tt
 lines-whole (b ∷ s) = go (eqb b lf) refl (lines-whole s)
   where
-    go : (t : Bool) → eqb b lf ≡ t → AllWhole (lines_of s) → AllWhole (pick t ([] ∷ lines_of s) (ontoFirst b (lines_of s)))
+    go : (t : Bool) → eqb b lf ≡ t → AllWhole (lines_of s) → AllWhole (pick t ([] ∷ lines_of s) (onto_first b (lines_of s)))
     go true e w = (refl, w)
     go false e w = onto-whole b (lines_of s) (ap not e) w
 
 -- a text whose last line has its LF is its lines, joined
 
-joined-onto : (b : ℕ) (lines : List (List ℕ)) → 0 < length lines → joinedLines (ontoFirst b lines) ≡ b ∷ joinedLines lines
-unfolding joinedLines
+joined-onto : (b : ℕ) (lines : List (List ℕ)) → 0 < length lines → joined_lines (onto_first b lines) ≡ b ∷ joined_lines lines
+unfolding joined_lines
 joined-onto b [] h = absurd (omega arith)
 joined-onto b (line ∷ lines) h = refl
 
@@ -56,23 +56,23 @@ unfolding lines_of
 lines-some [] h = absurd (omega arith)
 lines-some (b ∷ s) h = go (eqb b lf) (lines_of s)
   where
-    go : (t : Bool) (lines : List (List ℕ)) → 0 < length (pick t ([] ∷ lines) (ontoFirst b lines))
+    go : (t : Bool) (lines : List (List ℕ)) → 0 < length (pick t ([] ∷ lines) (onto_first b lines))
     go true lines = omega arith
     go false [] = omega arith
     go false (line ∷ lines) = omega arith
 
-pub lines-joined : (text : List ℕ) → endsWith lf text ≡ true → joinedLines (lines_of text) ≡ text
-unfolding lines_of joinedLines endsWith
+pub lines-joined : (text : List ℕ) → ends_with lf text ≡ true → joined_lines (lines_of text) ≡ text
+unfolding lines_of joined_lines ends_with
 lines-joined [] e = absurd (false≢true e)
 lines-joined (b ∷ []) e = go (eqb b lf) refl e
   where
-    go : (t : Bool) → eqb b lf ≡ t → t ≡ true → joinedLines (pick t ([] ∷ []) ((b ∷ []) ∷ [])) ≡ b ∷ []
+    go : (t : Bool) → eqb b lf ≡ t → t ≡ true → joined_lines (pick t ([] ∷ []) ((b ∷ []) ∷ [])) ≡ b ∷ []
     go true z e = λ i. sym (eqb-true b lf z) i ∷ []
     go false z e = absurd (false≢true e)
 lines-joined (b ∷ c ∷ s) e =
     go (eqb b lf) refl (lines-joined (c ∷ s) (sym (ends-after lf (b ∷ []) (c ∷ s) (omega arith)) ∙ e))
   where
-    go : (t : Bool) → eqb b lf ≡ t → joinedLines (lines_of (c ∷ s)) ≡ c ∷ s → joinedLines (pick t ([] ∷ lines_of (c ∷ s)) (ontoFirst b (lines_of (c ∷ s)))) ≡ b ∷ c ∷ s
+    go : (t : Bool) → eqb b lf ≡ t → joined_lines (lines_of (c ∷ s)) ≡ c ∷ s → joined_lines (pick t ([] ∷ lines_of (c ∷ s)) (onto_first b (lines_of (c ∷ s)))) ≡ b ∷ c ∷ s
     go true z r = λ i. sym (eqb-true b lf z) i ∷ r i
     go false z r = joined-onto b (lines_of (c ∷ s)) (lines-some (c ∷ s) (omega arith)) ∙ ap (λ (t : List ℕ). b ∷ t) r
 
@@ -88,30 +88,30 @@ every_drop p zero s e = e
 every_drop p (suc n) [] e = refl
 every_drop p (suc n) (b ∷ s) e = every_drop p n s (and_right (p b) (every p s) e)
 
-value-whole : (line : List ℕ) → Whole line → Whole (valueIn line)
-unfolding valueIn afterEquals bare
+value-whole : (line : List ℕ) → Whole line → Whole (value_in line)
+unfolding value_in after_equals bare
 value-whole line w =
-    every_drop (isOther lf) (leading space (afterEquals line)) (afterEquals line)
-    (every_drop (isOther lf) (suc (indexOf equals (bare line))) (bare line) (go (endsWith cr line)))
+    every_drop (is_other lf) (leading space (after_equals line)) (after_equals line)
+    (every_drop (is_other lf) (suc (index_of equals (bare line))) (bare line) (go (ends_with cr line)))
   where
     go : (t : Bool) → Whole (pick t (take (length line - 1) line) line)
-    go true = every_take (isOther lf) (length line - 1) line w
+    go true = every_take (is_other lf) (length line - 1) line w
     go false = w
 
-named-whole : (k : ℕ) (lines : List (List ℕ)) → AllWhole lines → Whole (valueNamed k lines)
-unfolding valueNamed
+named-whole : (k : ℕ) (lines : List (List ℕ)) → AllWhole lines → Whole (value_named k lines)
+unfolding value_named
 named-whole k [] w = refl
-named-whole k (line ∷ lines) w = go (eqb (numberIn line) k) (named-whole k lines w.1)
+named-whole k (line ∷ lines) w = go (eqb (number_in line) k) (named-whole k lines w.1)
   where
-    go : (t : Bool) → Whole (valueNamed k lines) → Whole (pick t (valueIn line) (valueNamed k lines))
+    go : (t : Bool) → Whole (value_named k lines) → Whole (pick t (value_in line) (value_named k lines))
     go true r = value-whole line w.0
     go false r = r
 
-lower-whole : (b : ℕ) → isOther lf b ≡ true → isOther lf (lowerHex b) ≡ true
-unfolding lowerHex isUpperHex
+lower-whole : (b : ℕ) → is_other lf b ≡ true → is_other lf (lower_hex b) ≡ true
+unfolding lower_hex is_upper_hex
 lower-whole b e = go (between 65 b 70) refl
   where
-    go : (t : Bool) → between 65 b 70 ≡ t → isOther lf (pick t (b + 32) b) ≡ true
+    go : (t : Bool) → between 65 b 70 ≡ t → is_other lf (pick t (b + 32) b) ≡ true
     go true z = ap not (ne_eqb (b + 32) lf (λ y. omega arith))
     go false z = e
 
@@ -119,22 +119,22 @@ lowered-whole : (s : List ℕ) → Whole s → Whole (lowered s)
 unfolding lowered
 lowered-whole [] w = refl
 lowered-whole (b ∷ s) w =
-    both_true (lower-whole b (and_left (isOther lf b) (every (isOther lf) s) w)) (lowered-whole s (and_right (isOther lf b) (every (isOther lf) s) w))
+    both_true (lower-whole b (and_left (is_other lf b) (every (is_other lf) s) w)) (lowered-whole s (and_right (is_other lf b) (every (is_other lf) s) w))
 
-mended-whole : (k : ℕ) (v : List ℕ) → Whole v → Whole (mendedValue k v)
-mended-whole k v w = subst Whole (sym (mended-cases k v)) (go (eqb k keyName) (isDecimal k))
+mended-whole : (k : ℕ) (v : List ℕ) → Whole v → Whole (mended_value k v)
+mended-whole k v w = subst Whole (sym (mended-cases k v)) (go (eqb k key_name) (is_decimal k))
   where
-    go : (x y : Bool) → Whole (mendedAs v x y)
+    go : (x y : Bool) → Whole (mended_as v x y)
     go true y = lowered-whole v w
-    go false true = every_drop (isOther lf) (zerosIn v) v w
+    go false true = every_drop (is_other lf) (zeros_in v) v w
     go false false = w
 
-pub values-whole : (two : Bool) (lines : List (List ℕ)) (k : ℕ) → AllWhole lines → Whole (valueMended two lines k)
-unfolding valueMended gained
-values-whole two lines k w = go (hasName two k) (eqb k formName)
+pub values-whole : (two : Bool) (lines : List (List ℕ)) (k : ℕ) → AllWhole lines → Whole (value_mended two lines k)
+unfolding value_mended gained
+values-whole two lines k w = go (has_name two k) (eqb k form_name)
   where
-    go : (x y : Bool) → Whole (pick x (mendedValue k (valueNamed k lines)) (pick y (ascii "2") (ascii "0")))
-    go true y = mended-whole k (valueNamed k lines) (named-whole k lines w)
+    go : (x y : Bool) → Whole (pick x (mended_value k (value_named k lines)) (pick y (ascii "2") (ascii "0")))
+    go true y = mended-whole k (value_named k lines) (named-whole k lines w)
     go false true = refl
     go false false = refl
 
@@ -146,10 +146,10 @@ pub record Alike (s t a b : List ℕ) : Type 0 where
 pub cut-alike : (s t a b : List ℕ) → Whole s → Whole t → s ++ (lf ∷ a) ≡ t ++ (lf ∷ b) → Alike s t a b
 cut-alike [] [] a b v w e = record { front = refl; rest = tail-eq_of_cons-eq e }
 cut-alike [] (y ∷ t) a b v w e =
-    absurd (false≢true (ap not (sym (eq-eqb y lf (sym (head-eq_of_cons-eq e)))) ∙ and_left (isOther lf y) _ w))
+    absurd (false≢true (ap not (sym (eq-eqb y lf (sym (head-eq_of_cons-eq e)))) ∙ and_left (is_other lf y) _ w))
 cut-alike (x ∷ s) [] a b v w e =
-    absurd (false≢true (ap not (sym (eq-eqb x lf (head-eq_of_cons-eq e))) ∙ and_left (isOther lf x) _ v))
+    absurd (false≢true (ap not (sym (eq-eqb x lf (head-eq_of_cons-eq e))) ∙ and_left (is_other lf x) _ v))
 cut-alike (x ∷ s) (y ∷ t) a b v w e =
     let r =
-    cut-alike s t a b (and_right (isOther lf x) (every (isOther lf) s) v) (and_right (isOther lf y) (every (isOther lf) t) w) (tail-eq_of_cons-eq e) in
+    cut-alike s t a b (and_right (is_other lf x) (every (is_other lf) s) v) (and_right (is_other lf y) (every (is_other lf) t) w) (tail-eq_of_cons-eq e) in
     record { front = λ i. head-eq_of_cons-eq e i ∷ r.front i; rest = r.rest }

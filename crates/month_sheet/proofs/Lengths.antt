@@ -7,10 +7,10 @@ use native.Mathlib.Omega.{arith}
 use lib.Dec.{eqb}
 use lib.ListN.{length}
 use Rattle.laws.specs.Choice.{pick}
-use Rattle.writing.specs.Text.{digits, lineText, item}
+use Rattle.writing.specs.Text.{digits, line_text, item}
 use Rattle.writing.proofs.Digits.{digits-fit, item-length, line-length}
-use Rattle.shares.specs.Share.{gcd, fractionOf, share_of}
-use Rattle.month_sheet.specs.Sheet.{shareText, rowText, countText, totalText, wrongLineText, longestShare, longestRow, longestCount, longestTotal}
+use Rattle.shares.specs.Share.{gcd, fraction_of, share_of}
+use Rattle.month_sheet.specs.Sheet.{share_text, row_text, count_text, total_text, wrong_line_text, longest_share, longest_row, longest_count, longest_total}
 
 -- a number of 64 bits has at most 20 digits
 twenty : (n : ℕ) → n < 18446744073709551616 → length (digits n) ≤ 20
@@ -23,33 +23,33 @@ unfolding share_of
 share-fits part whole p w = go (eqb whole 0)
   where
     go : (t : Bool)
-        → ((pick t (fractionOf 0 1) (fractionOf (part / gcd part whole) (whole / gcd part whole))).top < 18446744073709551616)
-        × ((pick t (fractionOf 0 1) (fractionOf (part / gcd part whole) (whole / gcd part whole))).bottom < 18446744073709551616)
+        → ((pick t (fraction_of 0 1) (fraction_of (part / gcd part whole) (whole / gcd part whole))).top < 18446744073709551616)
+        × ((pick t (fraction_of 0 1) (fraction_of (part / gcd part whole) (whole / gcd part whole))).bottom < 18446744073709551616)
     go true = (omega arith, omega arith)
     go false = (omega (arith, div-le_self part (gcd part whole)), omega (arith, div-le_self whole (gcd part whole)))
 
 -- a line of two numbers
 module _ (a b : ℕ) (ha : a < 18446744073709551616) (hb : b < 18446744073709551616) where
-  share-short : length (shareText a b) ≤ longestShare
-  unfolding shareText
+  share-short : length (share_text a b) ≤ longest_share
+  unfolding share_text
   share-short =
-      omega (arith, item-length " share=" (digits a) (lineText "/" (digits b)), line-length "/" (digits b), twenty a ha, twenty b hb)
+      omega (arith, item-length " share=" (digits a) (line_text "/" (digits b)), line-length "/" (digits b), twenty a ha, twenty b hb)
 
-  pub count-short : length (countText a b) ≤ longestCount
-  unfolding countText
+  pub count-short : length (count_text a b) ≤ longest_count
+  unfolding count_text
   count-short =
-      omega (arith, item-length "code=" (digits a) (lineText " count=" (digits b)), line-length " count=" (digits b), twenty a ha, twenty b hb)
+      omega (arith, item-length "code=" (digits a) (line_text " count=" (digits b)), line-length " count=" (digits b), twenty a ha, twenty b hb)
 
-pub refused-short : (n : ℕ) → n < 18446744073709551616 → length (wrongLineText n) ≤ longestTotal
-unfolding wrongLineText
+pub refused-short : (n : ℕ) → n < 18446744073709551616 → length (wrong_line_text n) ≤ longest_total
+unfolding wrong_line_text
 refused-short n h =
-    omega (arith, item-length "refused=" (digits 27) (lineText " line=" (digits n)), line-length " line=" (digits n), twenty 27 (omega arith), twenty n h)
+    omega (arith, item-length "refused=" (digits 27) (line_text " line=" (digits n)), line-length " line=" (digits n), twenty 27 (omega arith), twenty n h)
 
 module _ (a b c d : ℕ) (ha : a < 18446744073709551616) (hb : b < 18446744073709551616) (hc : c < 18446744073709551616) (hd : d < 18446744073709551616) where
-  pub total-short : length (totalText a b c d) ≤ longestTotal
-  unfolding totalText
+  pub total-short : length (total_text a b c d) ≤ longest_total
+  unfolding total_text
   total-short =
-      let fourth = lineText " blocks=" (digits d) in
+      let fourth = line_text " blocks=" (digits d) in
       let third = item " bits=" (digits c) ++ fourth in
       let second = item " calls=" (digits b) ++ third in
       omega (
@@ -64,11 +64,11 @@ module _ (a b c d : ℕ) (ha : a < 18446744073709551616) (hb : b < 1844674407370
         twenty d hd,
       )
 
-  pub row-short : (e all : ℕ) → e < 18446744073709551616 → all < 18446744073709551616 → length (rowText a b c d e all) ≤ longestRow
-  unfolding rowText
+  pub row-short : (e all : ℕ) → e < 18446744073709551616 → all < 18446744073709551616 → length (row_text a b c d e all) ≤ longest_row
+  unfolding row_text
   row-short e all he hl =
       let fits = share-fits d all hd hl in
-      let sixth = shareText (share_of d all).top (share_of d all).bottom in
+      let sixth = share_text (share_of d all).top (share_of d all).bottom in
       let fifth = item " blocks=" (digits e) ++ sixth in
       let fourth = item " bits=" (digits d) ++ fifth in
       let third = item " calls=" (digits c) ++ fourth in

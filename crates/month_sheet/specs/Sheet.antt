@@ -2,39 +2,39 @@
 use Rattle.std.specs.Prelude.{List, [], ◌∷◌, ◌++◌, ℕ, zero, suc, ◌+◌, ◌*◌, ◌/◌, ◌%◌, eqb, ltb, length, get_or}
 use Rattle.laws.specs.Choice.{pick}
 use Rattle.laws.specs.Lists.{tabulate}
-use Rattle.writing.specs.Text.{digits, item, lineText}
-use Rattle.writing.specs.Writing.{atFront}
+use Rattle.writing.specs.Text.{digits, item, line_text}
+use Rattle.writing.specs.Writing.{at_front}
 use Rattle.shares.specs.Share.{share_of}
-use Rattle.logged_calls.specs.Figures.{figureCount, totalRow, calls_at, bits_at, blocksAt, linesAt, countAt}
-use Rattle.call_log.specs.Fed.{Fed, fedTo, fed, lineStart, wrongLine}
+use Rattle.logged_calls.specs.Figures.{figure_count, total_row, calls_at, bits_at, blocks_at, lines_at, count_at}
+use Rattle.call_log.specs.Fed.{Fed, fed_to, fed, line_start, wrong_line}
 
 -- refusal 27 (document 02, [13]): a line of the call log is bad
-abbrev pub logLineBad : ℕ
-logLineBad = 27
+abbrev pub log_line_bad : ℕ
+log_line_bad = 27
 
 -- a fraction, at the end of a line
-unfoldable pub shareText : ℕ → ℕ → List ℕ
-shareText top bottom = item " share=" (digits top) ++ lineText "/" (digits bottom)
+unfoldable pub share_text : ℕ → ℕ → List ℕ
+share_text top bottom = item " share=" (digits top) ++ line_text "/" (digits bottom)
 
 -- a slot and direction: its calls, bits and blocks, and their share of all bits
-unfoldable pub rowText : ℕ → ℕ → ℕ → ℕ → ℕ → ℕ → List ℕ
-rowText slot direction calls bits blocks all =
+unfoldable pub row_text : ℕ → ℕ → ℕ → ℕ → ℕ → ℕ → List ℕ
+row_text slot direction calls bits blocks all =
     item "slot=" (digits slot)
     ++ (item " dir=" (digits direction)
     ++ (item " calls=" (digits calls)
     ++ (item " bits=" (digits bits)
     ++ (item " blocks=" (digits blocks)
-    ++ shareText (share_of bits all).top (share_of bits all).bottom))))
+    ++ share_text (share_of bits all).top (share_of bits all).bottom))))
 
-unfoldable pub countText : ℕ → ℕ → List ℕ
-countText code count = item "code=" (digits code) ++ lineText " count=" (digits count)
+unfoldable pub count_text : ℕ → ℕ → List ℕ
+count_text code count = item "code=" (digits code) ++ line_text " count=" (digits count)
 
-unfoldable pub totalText : ℕ → ℕ → ℕ → ℕ → List ℕ
-totalText lines calls bits blocks =
+unfoldable pub total_text : ℕ → ℕ → ℕ → ℕ → List ℕ
+total_text lines calls bits blocks =
     item "lines=" (digits lines)
     ++ (item " calls=" (digits calls)
     ++ (item " bits=" (digits bits)
-    ++ lineText " blocks=" (digits blocks)))
+    ++ line_text " blocks=" (digits blocks)))
 
 -- the text of i, of i + 1, ..: n of them
 unfoldable pub texts : (ℕ → List ℕ) → ℕ → ℕ → List ℕ
@@ -50,56 +50,56 @@ pub record Sums : Type 0 where
   pub lines : ℕ
 
 abbrev pub row_in : Sums → ℕ → List ℕ
-row_in s row = rowText (row / 2 + 1) (row % 2 + 1) (s.calls row) (s.bits row) (s.blocks row) (s.bits totalRow)
+row_in s row = row_text (row / 2 + 1) (row % 2 + 1) (s.calls row) (s.bits row) (s.blocks row) (s.bits total_row)
 
 -- each slot and direction, then each refusal number, then all
-unfoldable pub sheetText : Sums → List ℕ
-sheetText s =
+unfoldable pub sheet_text : Sums → List ℕ
+sheet_text s =
     texts (row_in s) 0 64
-    ++ (texts (λ code. countText code (s.count code)) 1 27
-    ++ totalText s.lines (s.calls totalRow) (s.bits totalRow) (s.blocks totalRow))
+    ++ (texts (λ code. count_text code (s.count code)) 1 27
+    ++ total_text s.lines (s.calls total_row) (s.bits total_row) (s.blocks total_row))
 
 -- the figures by their places
-abbrev pub sumsIn : List ℕ → Sums
-sumsIn figures =
+abbrev pub sums_in : List ℕ → Sums
+sums_in figures =
     record {
       calls = λ row. get_or figures (calls_at row) 0;
       bits = λ row. get_or figures (bits_at row) 0;
-      blocks = λ row. get_or figures (blocksAt row) 0;
-      count = λ code. get_or figures (countAt code) 0;
-      lines = get_or figures linesAt 0;
+      blocks = λ row. get_or figures (blocks_at row) 0;
+      count = λ code. get_or figures (count_at code) 0;
+      lines = get_or figures lines_at 0;
     }
 
-unfoldable pub wrongLineText : ℕ → List ℕ
-wrongLineText line = item "refused=" (digits logLineBad) ++ lineText " line=" (digits line)
+unfoldable pub wrong_line_text : ℕ → List ℕ
+wrong_line_text line = item "refused=" (digits log_line_bad) ++ line_text " line=" (digits line)
 
 -- what is printed of a log that is read: the sheet, or the first line that is wrong
-unfoldable pub printedText : Fed → List ℕ
-printedText f = pick (eqb (wrongLine f.month) 0) (sheetText (sumsIn f.figures)) (wrongLineText (wrongLine f.month))
+unfoldable pub printed_text : Fed → List ℕ
+printed_text f = pick (eqb (wrong_line f.month) 0) (sheet_text (sums_in f.figures)) (wrong_line_text (wrong_line f.month))
 
 -- a whole log, read from its first byte with all figures 0
-unfoldable pub wholeLog : List ℕ → Fed
-wholeLog log = fed (fedTo (lineStart 1) (tabulate (λ k. 0) 0 figureCount)) log
+unfoldable pub whole_log : List ℕ → Fed
+whole_log log = fed (fed_to (line_start 1) (tabulate (λ k. 0) 0 figure_count)) log
 
 -- no share, no line of a row, of a count or of the total is longer, nor what is printed
-abbrev pub longestShare : ℕ
-longestShare = 49
+abbrev pub longest_share : ℕ
+longest_share = 49
 
-abbrev pub longestRow : ℕ
-longestRow = 180
+abbrev pub longest_row : ℕ
+longest_row = 180
 
-abbrev pub longestCount : ℕ
-longestCount = 54
+abbrev pub longest_count : ℕ
+longest_count = 54
 
-abbrev pub longestTotal : ℕ
-longestTotal = 108
+abbrev pub longest_total : ℕ
+longest_total = 108
 
-abbrev pub sheetRoom : ℕ
-sheetRoom = 13086
+abbrev pub sheet_room : ℕ
+sheet_room = 13086
 
 -- what the call answers, and what the buffer holds after it
-unfoldable pub printedLength : Fed → List ℕ → ℕ
-printedLength f buffer = pick (ltb (length buffer) sheetRoom) 0 (length (printedText f))
+unfoldable pub printed_length : Fed → List ℕ → ℕ
+printed_length f buffer = pick (ltb (length buffer) sheet_room) 0 (length (printed_text f))
 
-unfoldable pub printedBuffer : Fed → List ℕ → List ℕ
-printedBuffer f buffer = pick (ltb (length buffer) sheetRoom) buffer (atFront (printedText f) buffer)
+unfoldable pub printed_buffer : Fed → List ℕ → List ℕ
+printed_buffer f buffer = pick (ltb (length buffer) sheet_room) buffer (at_front (printed_text f) buffer)

@@ -2,24 +2,24 @@
 ghost use Rattle.std.specs.Prelude.{◌≡◌, [], ◌∷◌, ◌++◌, ◌+◌, ◌*◌, ◌/◌, ◌%◌, ◌<◌, ◌≤◌, length, get_or};
 ghost use Rattle.writing.specs.Text.{lf, digits};
 ghost use Rattle.writing.specs.Writing.{Room, Put};
-ghost use Rattle.call_log.specs.Fed.{fedTo};
+ghost use Rattle.call_log.specs.Fed.{fed_to};
 ghost use Rattle.month_sheet.specs.Sheet.{
-  shareText,
-  rowText,
-  countText,
-  totalText,
+  share_text,
+  row_text,
+  count_text,
+  total_text,
   texts,
   row_in,
-  sheetText,
-  sumsIn,
-  wrongLineText,
-  wholeLog,
-  printedLength,
-  printedBuffer,
-  longestRow,
-  longestCount,
-  longestTotal,
-  sheetRoom,
+  sheet_text,
+  sums_in,
+  wrong_line_text,
+  whole_log,
+  printed_length,
+  printed_buffer,
+  longest_row,
+  longest_count,
+  longest_total,
+  sheet_room,
 };
 
 use call_log::{Month, wrong_line};
@@ -74,8 +74,8 @@ fn put_row(
     blocks: u64,
     all: u64,
 ) -> usize
-    requires { (at + longestRow ≤ length buffer.old) × (row < 64) }
-    ensures { (result ≤ at + longestRow) × Put buffer.old at (rowText (row / 2 + 1) (row % 2 + 1) calls bits blocks all) buffer.new result }
+    requires { (at + longest_row ≤ length buffer.old) × (row < 64) }
+    ensures { (result ≤ at + longest_row) × Put buffer.old at (row_text (row / 2 + 1) (row % 2 + 1) calls bits blocks all) buffer.new result }
 {
     let direction = put_item(buffer, at, b"slot=", row / 2 + 1);
     let accepted = put_item(buffer, direction, b" dir=", row % 2 + 1);
@@ -87,8 +87,8 @@ fn put_row(
 }
 
 fn put_rows<'a>(buffer: &'a mut [u8], at: usize, figures: &'a [u64]) -> usize
-    requires { at + 64 * longestRow ≤ length buffer.old }
-    ensures { (result ≤ at + 64 * longestRow) × Put buffer.old at (texts (row_in (sumsIn figures.now)) 0 64) buffer.new result }
+    requires { at + 64 * longest_row ≤ length buffer.old }
+    ensures { (result ≤ at + 64 * longest_row) × Put buffer.old at (texts (row_in (sums_in figures.now)) 0 64) buffer.new result }
 {
     let all = figure(figures, 193);
     let mut end = at;
@@ -105,8 +105,8 @@ fn put_rows<'a>(buffer: &'a mut [u8], at: usize, figures: &'a [u64]) -> usize
 }
 
 fn put_counts<'a>(buffer: &'a mut [u8], at: usize, figures: &'a [u64]) -> usize
-    requires { at + 27 * longestCount ≤ length buffer.old }
-    ensures { (result ≤ at + 27 * longestCount) × Put buffer.old at (texts (λ code. countText code (get_or figures.now (195 + code) 0)) 1 27) buffer.new result }
+    requires { at + 27 * longest_count ≤ length buffer.old }
+    ensures { (result ≤ at + 27 * longest_count) × Put buffer.old at (texts (λ code. count_text code (get_or figures.now (195 + code) 0)) 1 27) buffer.new result }
 {
     let mut end = at;
     let mut code: usize = 1;
@@ -120,8 +120,8 @@ fn put_counts<'a>(buffer: &'a mut [u8], at: usize, figures: &'a [u64]) -> usize
 }
 
 fn put_total(buffer: &mut [u8], at: usize, lines: u64, calls: u64, bits: u64, blocks: u64) -> usize
-    requires { at + longestTotal ≤ length buffer.old }
-    ensures { (result ≤ at + longestTotal) × Put buffer.old at (totalText lines calls bits blocks) buffer.new result }
+    requires { at + longest_total ≤ length buffer.old }
+    ensures { (result ≤ at + longest_total) × Put buffer.old at (total_text lines calls bits blocks) buffer.new result }
 {
     let accepted = put_item(buffer, at, b"lines=", lines);
     let ciphered = put_item(buffer, accepted, b" calls=", calls);
@@ -129,8 +129,8 @@ fn put_total(buffer: &mut [u8], at: usize, lines: u64, calls: u64, bits: u64, bl
 }
 
 fn put_sheet<'a>(buffer: &'a mut [u8], figures: &'a [u64]) -> usize
-    requires { sheetRoom ≤ length buffer.old }
-    ensures { (result ≤ sheetRoom) × Put buffer.old 0 (sheetText (sumsIn figures.now)) buffer.new result }
+    requires { sheet_room ≤ length buffer.old }
+    ensures { (result ≤ sheet_room) × Put buffer.old 0 (sheet_text (sums_in figures.now)) buffer.new result }
 {
     let counts = put_rows(buffer, 0, figures);
     let total = put_counts(buffer, counts, figures);
@@ -146,8 +146,8 @@ fn put_sheet<'a>(buffer: &'a mut [u8], figures: &'a [u64]) -> usize
 
 // What is printed of a log that is read, at the front of the buffer, and its length. The bytes after it stay. A smaller buffer stays as it is, with length 0.
 pub fn print<'a>(m: Month, figures: &'a [u64], buffer: &'a mut [u8]) -> usize
-    ensures { (result ≡ printedLength (fedTo m figures.now) buffer.old)
-        × (buffer.new ≡ printedBuffer (fedTo m figures.now) buffer.old) }
+    ensures { (result ≡ printed_length (fed_to m figures.now) buffer.old)
+        × (buffer.new ≡ printed_buffer (fed_to m figures.now) buffer.old) }
 {
     if buffer.len() < ROOM {
         return 0;
@@ -162,8 +162,8 @@ pub fn print<'a>(m: Month, figures: &'a [u64], buffer: &'a mut [u8]) -> usize
 // The whole of a log at once: what is printed of it, at the front of the buffer, and its length.
 #[unsafe(no_mangle)]
 pub extern "C" fn month_of_log(log: &[u8], buffer: &mut [u8]) -> usize
-    ensures { (result ≡ printedLength (wholeLog log.now) buffer.old)
-        × (buffer.new ≡ printedBuffer (wholeLog log.now) buffer.old) }
+    ensures { (result ≡ printed_length (whole_log log.now) buffer.old)
+        × (buffer.new ≡ printed_buffer (whole_log log.now) buffer.old) }
 {
     let mut figures = [0u64; 223];
     let m = call_log::feed(call_log::start(), &mut figures, log);

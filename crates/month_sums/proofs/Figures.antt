@@ -15,16 +15,16 @@ use Rattle.laws.specs.Lists.{tabulate}
 use Rattle.laws.proofs.Lists.{length-tabulate, get_d_tabulate}
 use Rattle.laws.proofs.Cases.{eq-or-ne, lt-or-le}
 use Rattle.logged_calls.specs.declared.Call.{Call}
-use Rattle.logged_calls.specs.Log.{GoodCall, AllGood, none, more, isAccepted, isSound, mostBits, largestBlocks, mostLines}
-use Rattle.logged_calls.specs.Figures.{figureCount, row_of, totalRow, calls_at, bits_at, blocksAt, linesAt, countAt, plus, intoRow, addedAccepted, addedRefused, added}
+use Rattle.logged_calls.specs.Log.{GoodCall, AllGood, none, more, is_accepted, is_sound, most_bits, largest_blocks, most_lines}
+use Rattle.logged_calls.specs.Figures.{figure_count, row_of, total_row, calls_at, bits_at, blocks_at, lines_at, count_at, plus, into_row, added_accepted, added_refused, added}
 use Rattle.call_log.proofs.Sizes.{plus-size, added-size}
 use Rattle.logged_calls.proofs.Sound.{Ranges, accepted-ranges, refused-code}
-use Rattle.month_sheet.specs.Sheet.{rowText, countText, totalText, texts, row_in, sheetText, sumsIn}
-use Rattle.month_sums.specs.Sums.{sumOfLines, in_row, sumsOver}
-use Rattle.month_sums.proofs.Logs.{figuresAfter}
+use Rattle.month_sheet.specs.Sheet.{row_text, count_text, total_text, texts, row_in, sheet_text, sums_in}
+use Rattle.month_sums.specs.Sums.{sum_of_lines, in_row, sums_over}
+use Rattle.month_sums.proofs.Logs.{figures_after}
 
 unfoldable pub zeros : List ℕ
-zeros = tabulate (λ k. 0) 0 figureCount
+zeros = tabulate (λ k. 0) 0 figure_count
 
 -- n where a place is i, else nothing
 abbrev pub hit : ℕ → ℕ → ℕ → ℕ
@@ -80,19 +80,19 @@ module _ (f : List ℕ) (B : ℕ) (small : Small f B) (size : length f ≡ 223) 
 
 -- what a line adds at a place
 
-abbrev pub acceptedAmount : ℕ → ℕ → ℕ → ℕ → ℕ
-acceptedAmount k row b q =
+abbrev pub accepted_amount : ℕ → ℕ → ℕ → ℕ → ℕ
+accepted_amount k row b q =
     0 + hit k (3 * row) 1 + hit k (3 * row + 1) b + hit k (3 * row + 2) q + hit k 192 1 + hit k 193 b + hit k 194 q + hit k 195 1
 
-abbrev pub refusedAmount : ℕ → ℕ → ℕ
-refusedAmount k code = 0 + hit k (195 + code) 1 + hit k 195 1
+abbrev pub refused_amount : ℕ → ℕ → ℕ
+refused_amount k code = 0 + hit k (195 + code) 1 + hit k 195 1
 
 unfoldable pub amount : ℕ → Call → ℕ
-amount k c = pick (isAccepted c) (acceptedAmount k (row_of c.slot c.direction) c.bits c.blocks) (refusedAmount k c.code)
+amount k c = pick (is_accepted c) (accepted_amount k (row_of c.slot c.direction) c.bits c.blocks) (refused_amount k c.code)
 
 accepted-adds : (f : List ℕ) (B : ℕ) → Small f B → length f ≡ 223 → B + 58016 < 18446744073709551616 → (row b q : ℕ) → row < 64 → b ≤ 8288 → q ≤ 33
-    → Adds f (addedAccepted f row b q) (λ k. acceptedAmount k row b q) 58016
-unfolding addedAccepted intoRow
+    → Adds f (added_accepted f row b q) (λ k. accepted_amount k row b q) 58016
+unfolding added_accepted into_row
 accepted-adds f B s e l row b q h hb hq =
     then-plus f B s e (then-plus f B s e (then-plus f B s e (then-plus f B s e (then-plus f B s e (then-plus f B s e (then-plus f B s e (same f B s e) (3 * row) 1 (omega arith) (omega arith) (omega arith))
     (3 * row + 1) b (omega arith) hb (omega arith))
@@ -103,8 +103,8 @@ accepted-adds f B s e l row b q h hb hq =
     195 1 (omega arith) (omega arith) (omega arith)
 
 refused-adds : (f : List ℕ) (B : ℕ) → Small f B → length f ≡ 223 → B + 58016 < 18446744073709551616 → (code : ℕ) → code ≤ 27
-    → Adds f (addedRefused f code) (λ k. refusedAmount k code) 16576
-unfolding addedRefused
+    → Adds f (added_refused f code) (λ k. refused_amount k code) 16576
+unfolding added_refused
 refused-adds f B s e l code h =
     then-plus f B s e (then-plus f B s e (same f B s e) (195 + code) 1 (omega arith) (omega arith) (omega arith)) 195 1 (omega arith) (omega arith) (omega arith)
 
@@ -116,7 +116,7 @@ record Added (f : List ℕ) (c : Call) : Type 0 where
   at : (k : ℕ) → get_or (added f c) k 0 ≡ get_or f k 0 + amount k c
   most : (k : ℕ) → amount k c ≤ 58016
 
-line-adds : (f : List ℕ) (B : ℕ) → Small f B → length f ≡ 223 → B + 58016 < 18446744073709551616 → (c : Call) → isSound c ≡ true → Added f c
+line-adds : (f : List ℕ) (B : ℕ) → Small f B → length f ≡ 223 → B + 58016 < 18446744073709551616 → (c : Call) → is_sound c ≡ true → Added f c
 unfolding added amount
 line-adds f B s e l c g = ⊎_elim yes no (eq-or-ne c.code 0)
   where
@@ -134,8 +134,8 @@ line-adds f B s e l c g = ⊎_elim yes no (eq-or-ne c.code 0)
 -- and lines
 
 pub after-at : (cs : List Call) (f : List ℕ) (B : ℕ) → AllGood cs → Small f B → length f ≡ 223 → B + 58016 * length cs < 18446744073709551616
-    → (k : ℕ) → get_or (figuresAfter f cs) k 0 ≡ get_or f k 0 + sumOfLines (amount k) cs
-unfolding figuresAfter sumOfLines Small
+    → (k : ℕ) → get_or (figures_after f cs) k 0 ≡ get_or f k 0 + sum_of_lines (amount k) cs
+unfolding figures_after sum_of_lines Small
 after-at [] f B none s e l k = omega arith
 after-at (c ∷ cs) f B (more g a) s e l k =
     let d = line-adds f B s e (omega arith) c g.sound in
@@ -143,13 +143,13 @@ after-at (c ∷ cs) f B (more g a) s e l k =
     omega (arith, r, d.at k)
 
 -- the same sum, where each good line adds the same
-pub sum_same : (f g : Call → ℕ) (cs : List Call) → AllGood cs → ((c : Call) → GoodCall c → f c ≡ g c) → sumOfLines f cs ≡ sumOfLines g cs
-unfolding sumOfLines
+pub sum_same : (f g : Call → ℕ) (cs : List Call) → AllGood cs → ((c : Call) → GoodCall c → f c ≡ g c) → sum_of_lines f cs ≡ sum_of_lines g cs
+unfolding sum_of_lines
 sum_same f g [] none e = refl
 sum_same f g (c ∷ cs) (more h a) e = λ i. e c h i + sum_same f g cs a e i
 
-pub sum_ones : (cs : List Call) → sumOfLines (λ c. 1) cs ≡ length cs
-unfolding sumOfLines
+pub sum_ones : (cs : List Call) → sum_of_lines (λ c. 1) cs ≡ length cs
+unfolding sum_of_lines
 sum_ones [] = refl
 sum_ones (c ∷ cs) = omega (arith, sum_ones cs)
 
@@ -190,7 +190,7 @@ module _ (row r o v k i j : ℕ) (h : row ≤ 64) (l : r < 64) (ek : k ≡ 3 * r
       other n m = rw (ne_eqb row 64 n, ne_eqb row r m, ne_eqb k i (λ z. m (omega arith)), ne_eqb k j (λ z. n (omega arith))) (omega arith)
 
 module _ (row r b q : ℕ) (h : row ≤ 64) (l : r < 64) where
-  accepted-calls : acceptedAmount (3 * row) r b q ≡ pick (pick (eqb row 64) true (eqb row r)) 1 0
+  accepted-calls : accepted_amount (3 * row) r b q ≡ pick (pick (eqb row 64) true (eqb row r)) 1 0
   accepted-calls =
       omega (
         arith,
@@ -202,7 +202,7 @@ module _ (row r b q : ℕ) (h : row ≤ 64) (l : r < 64) where
         hit_other (3 * row) 195 1 (λ z. omega arith),
       )
 
-  accepted-bits : acceptedAmount (3 * row + 1) r b q ≡ pick (pick (eqb row 64) true (eqb row r)) b 0
+  accepted-bits : accepted_amount (3 * row + 1) r b q ≡ pick (pick (eqb row 64) true (eqb row r)) b 0
   accepted-bits =
       omega (
         arith,
@@ -214,7 +214,7 @@ module _ (row r b q : ℕ) (h : row ≤ 64) (l : r < 64) where
         hit_other (3 * row + 1) 195 1 (λ z. omega arith),
       )
 
-  accepted-blocks : acceptedAmount (3 * row + 2) r b q ≡ pick (pick (eqb row 64) true (eqb row r)) q 0
+  accepted-blocks : accepted_amount (3 * row + 2) r b q ≡ pick (pick (eqb row 64) true (eqb row r)) q 0
   accepted-blocks =
       omega (
         arith,
@@ -242,17 +242,17 @@ module _ (c : Call) where
       go true = refl
       go false = refl
 
-  amount-accepted : (k : ℕ) → c.code ≡ 0 → amount k c ≡ acceptedAmount k (row_of c.slot c.direction) c.bits c.blocks
+  amount-accepted : (k : ℕ) → c.code ≡ 0 → amount k c ≡ accepted_amount k (row_of c.slot c.direction) c.bits c.blocks
   unfolding amount
   amount-accepted k z = rw (eq-eqb c.code 0 z)
 
-  amount-refused : (k : ℕ) → (c.code ≡ 0 → ⊥) → amount k c ≡ refusedAmount k c.code
+  amount-refused : (k : ℕ) → (c.code ≡ 0 → ⊥) → amount k c ≡ refused_amount k c.code
   unfolding amount
   amount-refused k n = rw (ne_eqb c.code 0 n)
 
 -- what a row gains is v of the lines that are in it
 in-row : (k row v : ℕ) (c : Call) → GoodCall c → row ≤ 64 → k < 195
-    → ((r : ℕ) → r < 64 → acceptedAmount k r c.bits c.blocks ≡ pick (pick (eqb row 64) true (eqb row r)) v 0)
+    → ((r : ℕ) → r < 64 → accepted_amount k r c.bits c.blocks ≡ pick (pick (eqb row 64) true (eqb row r)) v 0)
     → amount k c ≡ pick (in_row row c) v 0
 in-row k row v c g h l acc = ⊎_elim yes no (eq-or-ne c.code 0)
   where
@@ -268,7 +268,7 @@ in-row k row v c g h l acc = ⊎_elim yes no (eq-or-ne c.code 0)
         amount-refused c k n
         ∙ (nothing ∙ ap (λ (t : Bool). pick t v 0) (sym (in-refused c row n)))
       where
-        nothing : refusedAmount k c.code ≡ 0
+        nothing : refused_amount k c.code ≡ 0
         nothing = omega (arith, hit_other k (195 + c.code) 1 (λ z. omega arith), hit_other k 195 1 (λ z. omega arith))
 
 -- a count gains 1 of the lines with its code, and the number of lines 1 of each
@@ -332,44 +332,44 @@ texts-same f g (suc n) i e = λ j. e i (omega arith) (omega arith) j ++ texts-sa
 
 zero-at : (k : ℕ) → get_or zeros k 0 ≡ 0
 unfolding zeros
-zero-at k = ⊎_elim (λ h. get_d_tabulate (λ k. 0) 0 figureCount k 0 h) (λ h. get_or-eq_default (tabulate (λ k. 0) 0 figureCount) 0 (omega (arith, length-tabulate {A = ℕ} (λ k. 0) 0 figureCount))) (lt-or-le k figureCount)
+zero-at k = ⊎_elim (λ h. get_d_tabulate (λ k. 0) 0 figure_count k 0 h) (λ h. get_or-eq_default (tabulate (λ k. 0) 0 figure_count) 0 (omega (arith, length-tabulate {A = ℕ} (λ k. 0) 0 figure_count))) (lt-or-le k figure_count)
 
 zeros-size : length zeros ≡ 223
 unfolding zeros
-zeros-size = length-tabulate (λ k. 0) 0 figureCount
+zeros-size = length-tabulate (λ k. 0) 0 figure_count
 
-module _ (cs : List Call) (good : AllGood cs) (few : length cs ≤ mostLines) where
-  figure-is : (k : ℕ) (f : Call → ℕ) → ((c : Call) → GoodCall c → amount k c ≡ f c) → get_or (figuresAfter zeros cs) k 0 ≡ sumOfLines f cs
+module _ (cs : List Call) (good : AllGood cs) (few : length cs ≤ most_lines) where
+  figure-is : (k : ℕ) (f : Call → ℕ) → ((c : Call) → GoodCall c → amount k c ≡ f c) → get_or (figures_after zeros cs) k 0 ≡ sum_of_lines f cs
   unfolding Small
   figure-is k f e =
       let a = after-at cs zeros 0 good (λ j. omega (arith, zero-at j)) zeros-size (omega arith) k in
       omega (arith, a, zero-at k, sum_same (amount k) f cs good e)
 
-  pub calls_are : (row : ℕ) → row ≤ 64 → (sumsIn (figuresAfter zeros cs)).calls row ≡ (sumsOver cs).calls row
+  pub calls_are : (row : ℕ) → row ≤ 64 → (sums_in (figures_after zeros cs)).calls row ≡ (sums_over cs).calls row
   calls_are row h =
       figure-is (3 * row) (λ c. pick (in_row row c) 1 0) (λ c g. in-row (3 * row) row 1 c g h (omega arith) (λ r l. accepted-calls row r c.bits c.blocks h l))
 
-  pub bits_are : (row : ℕ) → row ≤ 64 → (sumsIn (figuresAfter zeros cs)).bits row ≡ (sumsOver cs).bits row
+  pub bits_are : (row : ℕ) → row ≤ 64 → (sums_in (figures_after zeros cs)).bits row ≡ (sums_over cs).bits row
   bits_are row h =
       figure-is (3 * row + 1) (λ c. pick (in_row row c) c.bits 0) (λ c g. in-row (3 * row + 1) row c.bits c g h (omega arith) (λ r l. accepted-bits row r c.bits c.blocks h l))
 
-  pub blocks-are : (row : ℕ) → row ≤ 64 → (sumsIn (figuresAfter zeros cs)).blocks row ≡ (sumsOver cs).blocks row
+  pub blocks-are : (row : ℕ) → row ≤ 64 → (sums_in (figures_after zeros cs)).blocks row ≡ (sums_over cs).blocks row
   blocks-are row h =
       figure-is (3 * row + 2) (λ c. pick (in_row row c) c.blocks 0) (λ c g. in-row (3 * row + 2) row c.blocks c g h (omega arith) (λ r l. accepted-blocks row r c.bits c.blocks h l))
 
-  pub count-are : (n : ℕ) → 1 ≤ n → (sumsIn (figuresAfter zeros cs)).count n ≡ (sumsOver cs).count n
+  pub count-are : (n : ℕ) → 1 ≤ n → (sums_in (figures_after zeros cs)).count n ≡ (sums_over cs).count n
   count-are n h = figure-is (195 + n) (λ c. pick (eqb c.code n) 1 0) (λ c g. gains-count c g n h)
 
-  pub lines_are : (sumsIn (figuresAfter zeros cs)).lines ≡ (sumsOver cs).lines
+  pub lines_are : (sums_in (figures_after zeros cs)).lines ≡ (sums_over cs).lines
   lines_are = figure-is 195 (λ c. 1) gains-line ∙ sum_ones cs
 
-  pub sheet-is : sheetText (sumsIn (figuresAfter zeros cs)) ≡ sheetText (sumsOver cs)
-  unfolding sheetText
+  pub sheet-is : sheet_text (sums_in (figures_after zeros cs)) ≡ sheet_text (sums_over cs)
+  unfolding sheet_text
   sheet-is =
-      let t = totalRow in
+      let t = total_row in
       λ i.
-      texts-same (row_in (sumsIn (figuresAfter zeros cs))) (row_in (sumsOver cs)) 64 0
-      (λ row l h j. rowText (row / 2 + 1) (row % 2 + 1) (calls_are row (omega arith) j) (bits_are row (omega arith) j) (blocks-are row (omega arith) j) (bits_are 64 (omega arith) j)) i
-      ++ (texts-same (λ code. countText code ((sumsIn (figuresAfter zeros cs)).count code)) (λ code. countText code ((sumsOver cs).count code)) 27 1
-      (λ code l h j. countText code (count-are code l j)) i
-      ++ totalText (lines_are i) (calls_are 64 (omega arith) i) (bits_are 64 (omega arith) i) (blocks-are 64 (omega arith) i))
+      texts-same (row_in (sums_in (figures_after zeros cs))) (row_in (sums_over cs)) 64 0
+      (λ row l h j. row_text (row / 2 + 1) (row % 2 + 1) (calls_are row (omega arith) j) (bits_are row (omega arith) j) (blocks-are row (omega arith) j) (bits_are 64 (omega arith) j)) i
+      ++ (texts-same (λ code. count_text code ((sums_in (figures_after zeros cs)).count code)) (λ code. count_text code ((sums_over cs).count code)) 27 1
+      (λ code l h j. count_text code (count-are code l j)) i
+      ++ total_text (lines_are i) (calls_are 64 (omega arith) i) (bits_are 64 (omega arith) i) (blocks-are 64 (omega arith) i))

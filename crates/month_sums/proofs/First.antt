@@ -12,13 +12,13 @@ use Rattle.laws.proofs.Cases.{and_left, and_right}
 use Rattle.writing.specs.Text.{lf}
 use Rattle.logged_calls.specs.declared.Call.{Call}
 use Rattle.call_log.specs.declared.Month.{Month}
-use Rattle.logged_calls.specs.Log.{GoodCall, AllGood, none, callText, logText, isSound, mostLines}
+use Rattle.logged_calls.specs.Log.{GoodCall, AllGood, none, call_text, log_text, is_sound, most_lines}
 use Rattle.logged_calls.specs.Figures.{added}
-use Rattle.call_log.specs.Fed.{Fed, fedTo, fed, fedByte, lineStart, stopped, finalPart, inNumber, inLine, endsLine, ended, taken, call_of}
+use Rattle.call_log.specs.Fed.{Fed, fed_to, fed, fed_byte, line_start, stopped, final_part, in_number, in_line, ends_line, ended, taken, call_of}
 use Rattle.call_log.proofs.Feeds.{fed-append}
 use Rattle.call_log.proofs.Bytes.{byte-wrong, byte-ends, byte-in, picked}
 use Rattle.month_sums.proofs.Prefix.{prefix, Fine, Joined, After, in-line, ended-text, ended-form, start-text}
-use Rattle.month_sums.proofs.Logs.{figuresAfter, text-more, figures-more, good_more, length_more}
+use Rattle.month_sums.proofs.Logs.{figures_after, text-more, figures-more, good_more, length_more}
 
 -- all is good, and the rest is what is read of a line
 pub record Going (m : Month) (rest : List ℕ) : Type 0 where
@@ -35,10 +35,10 @@ pub record Read (start : List ℕ) (f : Fed) (log : List ℕ) : Type 0 where
   pub calls : List Call
   pub rest : List ℕ
   pub good : AllGood calls
-  pub few : length calls ≤ mostLines
+  pub few : length calls ≤ most_lines
   pub line : f.month.line ≡ length calls + 1
-  pub figures : f.figures ≡ figuresAfter start calls
-  pub is : log ≡ logText calls ++ rest
+  pub figures : f.figures ≡ figures_after start calls
+  pub is : log ≡ log_text calls ++ rest
   pub state : Going f.month rest ⊎ Wrong f.month rest
 
 some : (l : List ℕ) (x : ℕ) → l ++ (x ∷ []) ≡ [] → ⊥
@@ -49,10 +49,10 @@ some (y ∷ l) x e = let z : ◌≡◌ {A = ℕ} 0 1 = cc in omega arith
 
 module _ {start : List ℕ} (f : Fed) (log : List ℕ) (r : Read start f log) (g : Going f.month r.rest) (x : ℕ) where
   -- the log so far, and x
-  longer : log ++ (x ∷ []) ≡ logText r.calls ++ (r.rest ++ (x ∷ []))
-  longer = ap (λ (l : List ℕ). l ++ (x ∷ [])) r.is ∙ append_assoc (logText r.calls) r.rest (x ∷ [])
+  longer : log ++ (x ∷ []) ≡ log_text r.calls ++ (r.rest ++ (x ∷ []))
+  longer = ap (λ (l : List ℕ). l ++ (x ∷ [])) r.is ∙ append_assoc (log_text r.calls) r.rest (x ∷ [])
 
-  wrong-now : {f' : Fed} → f' ≡ fedTo (stopped f.month.line) f.figures → Read start f' (log ++ (x ∷ []))
+  wrong-now : {f' : Fed} → f' ≡ fed_to (stopped f.month.line) f.figures → Read start f' (log ++ (x ∷ []))
   wrong-now {f'} e =
       subst (λ (h : Fed). Read start h (log ++ (x ∷ []))) (sym e)
       (record {
@@ -66,7 +66,7 @@ module _ {start : List ℕ} (f : Fed) (log : List ℕ) (r : Read start f log) (g
         state = inr (record { bad = refl; more = some r.rest x });
       })
 
-  going-now : {f' : Fed} (m' : Month) → f' ≡ fedTo m' f.figures → Joined f.month x m' → Read start f' (log ++ (x ∷ []))
+  going-now : {f' : Fed} (m' : Month) → f' ≡ fed_to m' f.figures → Joined f.month x m' → Read start f' (log ++ (x ∷ []))
   going-now {f'} m' e j =
       subst (λ (h : Fed). Read start h (log ++ (x ∷ []))) (sym e)
       (record {
@@ -80,8 +80,8 @@ module _ {start : List ℕ} (f : Fed) (log : List ℕ) (r : Read start f log) (g
         state = inl (record { good = j.good; fine = j.fine; text = ap (λ (l : List ℕ). l ++ (x ∷ [])) g.text ∙ sym j.text });
       })
 
-  taken-now : {f' : Fed} → f' ≡ fedTo (lineStart (f.month.line + 1)) (added f.figures (call_of f.month))
-      → x ≡ lf → f.month.part ≡ 4 → 9 ≤ f.month.at → f.month.line ≤ mostLines → isSound (call_of f.month) ≡ true
+  taken-now : {f' : Fed} → f' ≡ fed_to (line_start (f.month.line + 1)) (added f.figures (call_of f.month))
+      → x ≡ lf → f.month.part ≡ 4 → 9 ≤ f.month.at → f.month.line ≤ most_lines → is_sound (call_of f.month) ≡ true
       → Read start f' (log ++ (x ∷ []))
   taken-now {f'} e l p a n s =
       let c = call_of f.month in
@@ -95,47 +95,47 @@ module _ {start : List ℕ} (f : Fed) (log : List ℕ) (r : Read start f log) (g
         figures = ap (λ (k : List ℕ). added k c) r.figures ∙ sym (figures-more c start r.calls);
         is =
             longer
-            ∙ ((λ i. logText r.calls ++ (g.text i ++ (l i ∷ [])))
-            ∙ (ap (λ (t : List ℕ). logText r.calls ++ t) (ended-text f.month p a)
-            ∙ (sym (text-more c r.calls) ∙ sym (append-nil (logText (r.calls ++ (c ∷ [])))))));
+            ∙ ((λ i. log_text r.calls ++ (g.text i ++ (l i ∷ [])))
+            ∙ (ap (λ (t : List ℕ). log_text r.calls ++ t) (ended-text f.month p a)
+            ∙ (sym (text-more c r.calls) ∙ sym (append-nil (log_text (r.calls ++ (c ∷ [])))))));
         state = inl (record { good = refl; fine = fresh; text = sym (start-text (f.month.line + 1)) });
       })
     where
-      fresh : Fine (lineStart (f.month.line + 1))
+      fresh : Fine (line_start (f.month.line + 1))
       fresh = record { part = omega arith; number = omega arith; first = omega arith; second = omega arith; third = omega arith; fourth = omega arith }
 
-  ends_now : endsLine f.month x ≡ true → Read start (fedByte f x) (log ++ (x ∷ []))
-  unfolding endsLine ended taken
+  ends_now : ends_line f.month x ≡ true → Read start (fed_byte f x) (log ++ (x ∷ []))
+  unfolding ends_line ended taken
   ends_now e =
       let l = eqb-true x lf (and_left (eqb x lf) _ e) in
       let e1 = and_right (eqb x lf) _ e in
-      let p = eqb-true f.month.part finalPart (and_left (eqb f.month.part finalPart) _ e1) in
-      let a = leb-true inNumber f.month.at (and_right (eqb f.month.part finalPart) _ e1) in
-      go l p a (leb f.month.line mostLines && isSound (call_of f.month)) refl
+      let p = eqb-true f.month.part final_part (and_left (eqb f.month.part final_part) _ e1) in
+      let a = leb-true in_number f.month.at (and_right (eqb f.month.part final_part) _ e1) in
+      go l p a (leb f.month.line most_lines && is_sound (call_of f.month)) refl
     where
-      go : x ≡ lf → f.month.part ≡ 4 → 9 ≤ f.month.at → (t : Bool) → leb f.month.line mostLines && isSound (call_of f.month) ≡ t → Read start (fedByte f x) (log ++ (x ∷ []))
+      go : x ≡ lf → f.month.part ≡ 4 → 9 ≤ f.month.at → (t : Bool) → leb f.month.line most_lines && is_sound (call_of f.month) ≡ t → Read start (fed_byte f x) (log ++ (x ∷ []))
       go l p a true q =
-          taken-now (byte-ends f x g.good e ∙ picked (fedTo (lineStart (f.month.line + 1)) (added f.figures (call_of f.month))) (fedTo (stopped f.month.line) f.figures) true q) l p a
-          (leb-true f.month.line mostLines (and_left (leb f.month.line mostLines) _ q)) (and_right (leb f.month.line mostLines) _ q)
+          taken-now (byte-ends f x g.good e ∙ picked (fed_to (line_start (f.month.line + 1)) (added f.figures (call_of f.month))) (fed_to (stopped f.month.line) f.figures) true q) l p a
+          (leb-true f.month.line most_lines (and_left (leb f.month.line most_lines) _ q)) (and_right (leb f.month.line most_lines) _ q)
       go l p a false q =
-          wrong-now (byte-ends f x g.good e ∙ picked (fedTo (lineStart (f.month.line + 1)) (added f.figures (call_of f.month))) (fedTo (stopped f.month.line) f.figures) false q)
+          wrong-now (byte-ends f x g.good e ∙ picked (fed_to (line_start (f.month.line + 1)) (added f.figures (call_of f.month))) (fed_to (stopped f.month.line) f.figures) false q)
 
-  on-now : endsLine f.month x ≡ false → Read start (fedByte f x) (log ++ (x ∷ []))
+  on-now : ends_line f.month x ≡ false → Read start (fed_byte f x) (log ++ (x ∷ []))
   unfolding After
-  on-now e = ⊎_elim (λ j. going-now (inLine f.month x) (byte-in f x g.good e) j) (λ s. wrong-now (byte-in f x g.good e ∙ ap (λ (m : Month). fedTo m f.figures) s)) (in-line f.month x g.fine)
+  on-now e = ⊎_elim (λ j. going-now (in_line f.month x) (byte-in f x g.good e) j) (λ s. wrong-now (byte-in f x g.good e ∙ ap (λ (m : Month). fed_to m f.figures) s)) (in-line f.month x g.fine)
 
 -- one byte more
-next : {start : List ℕ} (f : Fed) (log : List ℕ) (x : ℕ) → Read start f log → Read start (fedByte f x) (log ++ (x ∷ []))
+next : {start : List ℕ} (f : Fed) (log : List ℕ) (x : ℕ) → Read start f log → Read start (fed_byte f x) (log ++ (x ∷ []))
 next {start} f log x r = ⊎_elim going wrong r.state
   where
-    going : Going f.month r.rest → Read start (fedByte f x) (log ++ (x ∷ []))
-    going g = go (endsLine f.month x) refl
+    going : Going f.month r.rest → Read start (fed_byte f x) (log ++ (x ∷ []))
+    going g = go (ends_line f.month x) refl
       where
-        go : (t : Bool) → endsLine f.month x ≡ t → Read start (fedByte f x) (log ++ (x ∷ []))
+        go : (t : Bool) → ends_line f.month x ≡ t → Read start (fed_byte f x) (log ++ (x ∷ []))
         go true e = ends_now f log r g x e
         go false e = on-now f log r g x e
 
-    wrong : Wrong f.month r.rest → Read start (fedByte f x) (log ++ (x ∷ []))
+    wrong : Wrong f.month r.rest → Read start (fed_byte f x) (log ++ (x ∷ []))
     wrong w =
         subst (λ (h : Fed). Read start h (log ++ (x ∷ []))) (sym (byte-wrong f x w.bad))
         (record {
@@ -145,7 +145,7 @@ next {start} f log x r = ⊎_elim going wrong r.state
           few = r.few;
           line = r.line;
           figures = r.figures;
-          is = ap (λ (l : List ℕ). l ++ (x ∷ [])) r.is ∙ append_assoc (logText r.calls) r.rest (x ∷ []);
+          is = ap (λ (l : List ℕ). l ++ (x ∷ [])) r.is ∙ append_assoc (log_text r.calls) r.rest (x ∷ []);
           state = inr (record { bad = w.bad; more = some r.rest x });
         })
 
@@ -154,13 +154,13 @@ all_read : {start : List ℕ} (f : Fed) (log bytes : List ℕ) → Read start f 
 unfolding fed
 all_read {start} f log [] r = subst (Read start f) (sym (append-nil log)) r
 all_read {start} f log (x ∷ bytes) r =
-    subst (Read start (fed (fedByte f x) bytes)) (append_assoc log (x ∷ []) bytes) (all_read (fedByte f x) (log ++ (x ∷ [])) bytes (next f log x r))
+    subst (Read start (fed (fed_byte f x) bytes)) (append_assoc log (x ∷ []) bytes) (all_read (fed_byte f x) (log ++ (x ∷ [])) bytes (next f log x r))
 
 -- a whole log, from its first byte
-pub read : (start log : List ℕ) → Read start (fed (fedTo (lineStart 1) start) log) log
-unfolding logText figuresAfter
+pub read : (start log : List ℕ) → Read start (fed (fed_to (line_start 1) start) log) log
+unfolding log_text figures_after
 read start log =
-    all_read (fedTo (lineStart 1) start) [] log
+    all_read (fed_to (line_start 1) start) [] log
     (record {
       calls = [];
       rest = [];

@@ -14,9 +14,9 @@ use Rattle.shares.specs.Share.{share_of, LowestShare}
 use Rattle.shares.proofs.Lowest.{share-lowest}
 use Rattle.logged_calls.specs.declared.Call.{Call}
 use Rattle.logged_calls.specs.Log.{GoodCall, AllGood, none, more}
-use Rattle.logged_calls.specs.Figures.{row_of, totalRow}
+use Rattle.logged_calls.specs.Figures.{row_of, total_row}
 use Rattle.logged_calls.proofs.Sound.{accepted-ranges, refused-code}
-use Rattle.month_sums.specs.Sums.{sumOfLines, in_row, sumsOver, sum_to}
+use Rattle.month_sums.specs.Sums.{sum_of_lines, in_row, sums_over, sum_to}
 use Rattle.month_sums.proofs.Figures.{hit, hit_same, hit_other, sum_same, sum_ones, row_low, in-accepted, in-refused}
 
 -- sums to n
@@ -59,13 +59,13 @@ to_part f r (suc n) h =
     ⊎_elim (λ e. omega (arith, ap f e)) (λ d. ⊎_elim (λ l. omega (arith, to_part f r n l)) (λ l. absurd (d (omega arith))) (lt-or-le r n)) (eq-or-ne n r)
 
 -- sums over lines, and to n, in either order
-swapped : (g : ℕ → Call → ℕ) (n : ℕ) (cs : List Call) → sum_to (λ k. sumOfLines (g k) cs) n ≡ sumOfLines (λ c. sum_to (λ k. g k c) n) cs
-unfolding sumOfLines
+swapped : (g : ℕ → Call → ℕ) (n : ℕ) (cs : List Call) → sum_to (λ k. sum_of_lines (g k) cs) n ≡ sum_of_lines (λ c. sum_to (λ k. g k c) n) cs
+unfolding sum_of_lines
 swapped g n [] = to_none n
-swapped g n (c ∷ cs) = to_both (λ k. g k c) (λ k. sumOfLines (g k) cs) n ∙ ap (λ (x : ℕ). sum_to (λ k. g k c) n + x) (swapped g n cs)
+swapped g n (c ∷ cs) = to_both (λ k. g k c) (λ k. sum_of_lines (g k) cs) n ∙ ap (λ (x : ℕ). sum_to (λ k. g k c) n + x) (swapped g n cs)
 
-over-both : (f g : Call → ℕ) (cs : List Call) → sumOfLines (λ c. f c + g c) cs ≡ sumOfLines f cs + sumOfLines g cs
-unfolding sumOfLines
+over-both : (f g : Call → ℕ) (cs : List Call) → sum_of_lines (λ c. f c + g c) cs ≡ sum_of_lines f cs + sum_of_lines g cs
+unfolding sum_of_lines
 over-both f g [] = refl
 over-both f g (c ∷ cs) = omega (arith, over-both f g cs)
 
@@ -114,30 +114,30 @@ one-count c g = ⊎_elim yes no (eq-or-ne c.code 0)
         omega (arith, a, b, to-hit (c.code - 1) 1 27 (omega arith))
 
 module _ (cs : List Call) (good : AllGood cs) where
-  adds-up : (v : Call → ℕ) → sum_to (λ row. sumOfLines (λ c. pick (in_row row c) (v c) 0) cs) 64 ≡ sumOfLines (λ c. pick (in_row 64 c) (v c) 0) cs
+  adds-up : (v : Call → ℕ) → sum_to (λ row. sum_of_lines (λ c. pick (in_row row c) (v c) 0) cs) 64 ≡ sum_of_lines (λ c. pick (in_row 64 c) (v c) 0) cs
   adds-up v =
       swapped (λ row c. pick (in_row row c) (v c) 0) 64 cs
       ∙ sum_same (λ c. sum_to (λ row. pick (in_row row c) (v c) 0) 64) (λ c. pick (in_row 64 c) (v c) 0) cs good (λ c g. one-row c g (v c))
 
   -- the slots' calls, bits and blocks add up to the totals
 
-  pub calls-add-up : sum_to (sumsOver cs).calls 64 ≡ (sumsOver cs).calls totalRow
+  pub calls-add-up : sum_to (sums_over cs).calls 64 ≡ (sums_over cs).calls total_row
   calls-add-up = adds-up (λ c. 1)
 
-  pub bits-add-up : sum_to (sumsOver cs).bits 64 ≡ (sumsOver cs).bits totalRow
+  pub bits-add-up : sum_to (sums_over cs).bits 64 ≡ (sums_over cs).bits total_row
   bits-add-up = adds-up (λ c. c.bits)
 
-  pub blocks-add-up : sum_to (sumsOver cs).blocks 64 ≡ (sumsOver cs).blocks totalRow
+  pub blocks-add-up : sum_to (sums_over cs).blocks 64 ≡ (sums_over cs).blocks total_row
   blocks-add-up = adds-up (λ c. c.blocks)
 
   -- calls and counts add up to the lines
-  pub lines-add-up : (sumsOver cs).calls totalRow + sum_to (λ i. (sumsOver cs).count (i + 1)) 27 ≡ (sumsOver cs).lines
+  pub lines-add-up : (sums_over cs).calls total_row + sum_to (λ i. (sums_over cs).count (i + 1)) 27 ≡ (sums_over cs).lines
   lines-add-up =
-      ap (λ (x : ℕ). (sumsOver cs).calls totalRow + x) (swapped (λ i c. pick (eqb c.code (i + 1)) 1 0) 27 cs)
+      ap (λ (x : ℕ). (sums_over cs).calls total_row + x) (swapped (λ i c. pick (eqb c.code (i + 1)) 1 0) 27 cs)
       ∙ (sym (over-both (λ c. pick (in_row 64 c) 1 0) (λ c. sum_to (λ i. pick (eqb c.code (i + 1)) 1 0) 27) cs)
       ∙ (sum_same (λ c. pick (in_row 64 c) 1 0 + sum_to (λ i. pick (eqb c.code (i + 1)) 1 0) 27) (λ c. 1) cs good one-count ∙ sum_ones cs))
 
   -- a row's share times the total is the row's bits, in lowest terms
   pub row-share : (row : ℕ) → row < 64
-      → LowestShare ((sumsOver cs).bits row) ((sumsOver cs).bits totalRow) (share_of ((sumsOver cs).bits row) ((sumsOver cs).bits totalRow)).top (share_of ((sumsOver cs).bits row) ((sumsOver cs).bits totalRow)).bottom
-  row-share row h = share-lowest ((sumsOver cs).bits row) ((sumsOver cs).bits totalRow) (omega (arith, to_part (sumsOver cs).bits row 64 h, bits-add-up))
+      → LowestShare ((sums_over cs).bits row) ((sums_over cs).bits total_row) (share_of ((sums_over cs).bits row) ((sums_over cs).bits total_row)).top (share_of ((sums_over cs).bits row) ((sums_over cs).bits total_row)).bottom
+  row-share row h = share-lowest ((sums_over cs).bits row) ((sums_over cs).bits total_row) (omega (arith, to_part (sums_over cs).bits row 64 h, bits-add-up))

@@ -4,10 +4,10 @@ use mathlib.Core.Logic.{⊎_elim}
 use Prim.Native.Nat.{ℕ, ◌+◌, ◌%◌, ◌<◌, ◌≤◌}
 use native.Mathlib.Omega.{arith}
 use Rattle.laws.proofs.Cases.{lt-or-le}
-use Rattle.block_counts.specs.Counts.{blocksUsed}
+use Rattle.block_counts.specs.Counts.{blocks_used}
 use Rattle.block_counts.proofs.Blocks.{used-none, used-some}
 
-pub one_more : (skip done p : ℕ) → 0 < p → (skip + done) % 256 + p ≤ 256 → (0 < done → (skip + done) % 256 ≡ 0) → blocksUsed skip done + 1 ≡ blocksUsed skip (done + p)
+pub one_more : (skip done p : ℕ) → 0 < p → (skip + done) % 256 + p ≤ 256 → (0 < done → (skip + done) % 256 ≡ 0) → blocks_used skip done + 1 ≡ blocks_used skip (done + p)
 one_more skip done p some fits edge =
     let u = used-some skip (done + p) (λ e. omega arith) in
     ⊎_elim

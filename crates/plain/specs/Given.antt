@@ -4,19 +4,19 @@ use Rattle.std.specs.Prelude.{List, ℕ, eqb, length}
 use Rattle.laws.specs.Choice.{pick}
 use Rattle.refusals.specs.Numbers.{done}
 use Rattle.span.specs.Span.{written}
-use Rattle.block_counts.specs.Counts.{blocksUsed}
+use Rattle.block_counts.specs.Counts.{blocks_used}
 use Rattle.keystream.specs.Stream.{keystream}
-use Rattle.bench.specs.Bench.{keyedRefusal}
+use Rattle.bench.specs.Bench.{keyed_refusal}
 
 -- the buffer is written from its bit 0 on, whatever is skipped of the keystream
-abbrev pub givenRefusal : ℕ → List ℕ → List ℕ → List ℕ → ℕ → ℕ → ℕ
-givenRefusal algorithm key iv buf n skip = keyedRefusal algorithm (length key) (length iv) (length buf) 0 n skip
+abbrev pub given_refusal : ℕ → List ℕ → List ℕ → List ℕ → ℕ → ℕ → ℕ
+given_refusal algorithm key iv buf n skip = keyed_refusal algorithm (length key) (length iv) (length buf) 0 n skip
 
 -- the buffer afterwards: its bit i, for i below n, is keystream bit skip + i, and a refusal changes nothing
-unfoldable pub givenBuffer : ℕ → List ℕ → List ℕ → List ℕ → ℕ → ℕ → List ℕ
-givenBuffer algorithm key iv buf n skip =
-    pick (eqb (givenRefusal algorithm key iv buf n skip) done) (written buf (keystream algorithm key iv) 0 skip n) buf
+unfoldable pub given_buffer : ℕ → List ℕ → List ℕ → List ℕ → ℕ → ℕ → List ℕ
+given_buffer algorithm key iv buf n skip =
+    pick (eqb (given_refusal algorithm key iv buf n skip) done) (written buf (keystream algorithm key iv) 0 skip n) buf
 
 -- the blocks reported
-unfoldable pub givenBlocks : ℕ → List ℕ → List ℕ → List ℕ → ℕ → ℕ → ℕ
-givenBlocks algorithm key iv buf n skip = pick (eqb (givenRefusal algorithm key iv buf n skip) done) (blocksUsed skip n) 0
+unfoldable pub given_blocks : ℕ → List ℕ → List ℕ → List ℕ → ℕ → ℕ → ℕ
+given_blocks algorithm key iv buf n skip = pick (eqb (given_refusal algorithm key iv buf n skip) done) (blocks_used skip n) 0

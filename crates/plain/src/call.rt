@@ -1,9 +1,9 @@
 // The call: keystream into a buffer, from a bit of it on.
 ghost use Rattle.std.specs.Prelude.{◌≡◌, ◌+◌, ◌-◌, ◌*◌, ◌<◌, ◌≤◌, min, length};
-ghost use Rattle.span.specs.Span.{xored, written, streamBit};
-ghost use Rattle.block_counts.specs.Counts.{blocksUsed};
+ghost use Rattle.span.specs.Span.{xored, written, stream_bit};
+ghost use Rattle.block_counts.specs.Counts.{blocks_used};
 ghost use Rattle.tea.specs.Keystream.{block_of};
-ghost use Rattle.plain.specs.Given.{givenRefusal, givenBuffer, givenBlocks};
+ghost use Rattle.plain.specs.Given.{given_refusal, given_buffer, given_blocks};
 
 use plain_blocks::blocks::block;
 use plain_blocks::mode::mode_of;
@@ -11,7 +11,7 @@ use tea::mode::Mode;
 
 // Whether keystream may be had from bit `skip` on: the bench call's tests, with the skip.
 pub fn refusal_of(algorithm: u64, key: &[u8], iv: &[u8], buf: &[u8], n: usize, skip: usize) -> u8
-    ensures { result ≡ givenRefusal algorithm key.now iv.now buf.now n skip }
+    ensures { result ≡ given_refusal algorithm key.now iv.now buf.now n skip }
 {
     bench::keyed_refusal(algorithm, key.len(), iv.len(), buf.len(), 0, n, skip)
 }
@@ -28,7 +28,7 @@ fn piece(from: usize, left: usize) -> usize
 // with the blocks that were made.
 fn xor_blocks(buf: &mut [u8], n: usize, skip: usize, mode: Mode) -> usize
     requires { (length buf.old ≤ 8192) × (n ≤ 8 * length buf.old) × (skip + n ≤ 8288) }
-    ensures { (buf.new ≡ xored buf.old (streamBit (block_of mode)) 0 skip n) × (result ≡ blocksUsed skip n) }
+    ensures { (buf.new ≡ xored buf.old (stream_bit (block_of mode)) 0 skip n) × (result ≡ blocks_used skip n) }
 {
     let mut made = 0;
     let mut done = 0;
@@ -47,7 +47,7 @@ fn xor_blocks(buf: &mut [u8], n: usize, skip: usize, mode: Mode) -> usize
 // The bits are cleared first, and xored then: they become the keystream's.
 fn write_blocks(buf: &mut [u8], n: usize, skip: usize, mode: Mode) -> usize
     requires { (length buf.old ≤ 8192) × (n ≤ 8 * length buf.old) × (skip + n ≤ 8288) }
-    ensures { (buf.new ≡ written buf.old (streamBit (block_of mode)) 0 skip n) × (result ≡ blocksUsed skip n) }
+    ensures { (buf.new ≡ written buf.old (stream_bit (block_of mode)) 0 skip n) × (result ≡ blocks_used skip n) }
 {
     span::clear_front(buf, n);
     xor_blocks(buf, n, skip, mode)
@@ -64,9 +64,9 @@ pub extern "C" fn card_plain(
     skip: usize,
     blocks: &mut usize,
 ) -> u8
-    ensures { (result ≡ givenRefusal algorithm key.now iv.now buf.old n skip)
-        × (buf.new ≡ givenBuffer algorithm key.now iv.now buf.old n skip)
-        × (blocks.new ≡ givenBlocks algorithm key.now iv.now buf.old n skip) }
+    ensures { (result ≡ given_refusal algorithm key.now iv.now buf.old n skip)
+        × (buf.new ≡ given_buffer algorithm key.now iv.now buf.old n skip)
+        × (blocks.new ≡ given_blocks algorithm key.now iv.now buf.old n skip) }
 {
     *blocks = 0;
     let refusal = refusal_of(algorithm, key, iv, &buf[..], n, skip);

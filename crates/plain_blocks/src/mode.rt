@@ -1,7 +1,7 @@
 // The mode key CKM and the mode value IVM: clauses 5.3, 6.3, 7.3.
 ghost use Rattle.std.specs.Prelude.{◌≡◌, ◌+◌, ◌*◌, ◌/◌, ◌%◌};
-ghost use Rattle.tea.specs.Mixing.{mixedValue};
-ghost use Rattle.tea.specs.Mode.{combined, modeBy, mode_of};
+ghost use Rattle.tea.specs.Mixing.{mixed_value};
+ghost use Rattle.tea.specs.Mode.{combined, mode_by, mode_of};
 
 use algorithms::{combining_table, digit};
 use plain_mixing::byte;
@@ -37,7 +37,7 @@ fn second(f: &[u8; 256], c: u8, v: u8) -> u8
 
 // By the lent table of f. Byte k of IVX is b[20 + k].
 fn mode_by(f: &[u8; 256], digit: u8, ck: [u8; 24], iv: [u8; 10]) -> Mode
-    ensures { result ≡ modeBy f.now digit ck (mixedValue iv) }
+    ensures { result ≡ mode_by f.now digit ck (mixed_value iv) }
 {
     let mut ckm = [0u8; 24];
     let mut ivm = [0u8; 24];

@@ -1,11 +1,11 @@
 // Bytes as elements of GF(2^8): the proposal, 2.1.
 ghost use Rattle.std.specs.Prelude.{◌≡◌, ◌%◌, eqb};
 ghost use Rattle.laws.specs.Choice.{pick};
-ghost use Rattle.gf256.specs.Field.{timesZ, times, inverse};
+ghost use Rattle.gf256.specs.Field.{times_z, times, inverse};
 
 // 2.1.3, `xtime`: b times x, a shift. Where the bit of x^7 goes out, it is x^8 = x^4 + x^3 + x + 1, which is 1b.
 pub fn xtime(b: u8) -> u8
-    ensures { result ≡ timesZ b }
+    ensures { result ≡ times_z b }
 {
     if b < 128 {
         return b * 2;

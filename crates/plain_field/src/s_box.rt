@@ -1,6 +1,6 @@
 // The S-box, computed: the proposal, 4.2.1.
 ghost use Rattle.std.specs.Prelude.{◌≡◌};
-ghost use Rattle.gf256.specs.Field.{turned, affine, sBox};
+ghost use Rattle.gf256.specs.Field.{turned, affine, s_box};
 
 use crate::galois::inverse;
 
@@ -24,7 +24,7 @@ fn affine(b: u8) -> u8
 
 // First the inverse, then the affine map.
 pub fn s_box(x: u8) -> u8
-    ensures { result ≡ sBox x }
+    ensures { result ≡ s_box x }
 {
     affine(inverse(x))
 }

@@ -1,13 +1,13 @@
 // The initial value mixed: clauses 5.2, 6.2, 7.2. No byte is kept: each asks for those that its rule names.
 ghost use Rattle.std.specs.Prelude.{◌≡◌, ◌-◌, ◌<◌, ◌≤◌};
 ghost use Rattle.gf256.specs.Field.{times};
-ghost use Rattle.tea.specs.Mixing.{expandedByte};
+ghost use Rattle.tea.specs.Mixing.{expanded_byte};
 
 // b[i]: the first ten are the initial value's.
 #[cycle(byte_product)]
 pub fn byte(iv: [u8; 10], i: usize) -> u8
     requires { i < 44 }
-    ensures { result ≡ expandedByte iv i }
+    ensures { result ≡ expanded_byte iv i }
 {
     if i < 10 {
         return iv[i];
@@ -19,7 +19,7 @@ pub fn byte(iv: [u8; 10], i: usize) -> u8
 #[cycle(byte_product)]
 fn product(iv: [u8; 10], i: usize) -> u8
     requires { (1 ≤ i) × (i < 44) }
-    ensures { result ≡ times 0xd7 (expandedByte iv (i - 1)) }
+    ensures { result ≡ times 0xd7 (expanded_byte iv (i - 1)) }
 {
     plain_field::galois::times(0xd7, byte(iv, i - 1))
 }

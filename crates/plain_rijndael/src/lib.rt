@@ -2,7 +2,7 @@
 mod steps;
 
 ghost use Rattle.std.specs.Prelude.{◌≡◌};
-ghost use Rattle.rijndael.specs.Cipher.{toState, toBlock, encrypted, cipher};
+ghost use Rattle.rijndael.specs.Cipher.{to_state, to_block, encrypted, cipher};
 ghost use Rattle.plain_schedule.specs.Bytes.{words_of};
 
 use plain_schedule::key_expansion;
@@ -10,7 +10,7 @@ use steps::{add_round_key, final_round, round};
 
 // 4.1: the input goes down the first column, then down the second, ..
 fn to_state(b: [u8; 32]) -> [[u8; 8]; 4]
-    ensures { result ≡ toState b }
+    ensures { result ≡ to_state b }
 {
     let mut s = [[0u8; 8]; 4];
     for r in 0..4 {
@@ -23,7 +23,7 @@ fn to_state(b: [u8; 32]) -> [[u8; 8]; 4]
 
 // 4.1: and the output comes from the state in the same order.
 fn to_block(s: [[u8; 8]; 4]) -> [u8; 32]
-    ensures { result ≡ toBlock s }
+    ensures { result ≡ to_block s }
 {
     let mut b = [0u8; 32];
     for k in 0..32 {

@@ -1,6 +1,6 @@
 // The steps of a round, on a state of four rows by eight columns: the proposal, 4.2.
 ghost use Rattle.std.specs.Prelude.{◌≡◌, ◌<◌};
-ghost use Rattle.round_steps.specs.Steps.{shift_of, mixedByte, byteSub, shiftRow, mixColumn, addRoundKey, roundOf, finalRound};
+ghost use Rattle.round_steps.specs.Steps.{shift_of, mixed_byte, byte_sub, shift_row, mix_column, add_round_key, round_of, final_round};
 ghost use Rattle.plain_schedule.specs.Bytes.{words_of};
 
 use plain_field::galois::times;
@@ -8,7 +8,7 @@ use plain_field::s_box::s_box;
 
 // 4.2.1: each byte through the S-box.
 fn byte_sub(s: [[u8; 8]; 4]) -> [[u8; 8]; 4]
-    ensures { result ≡ byteSub s }
+    ensures { result ≡ byte_sub s }
 {
     let mut t = s;
     for r in 0..4 {
@@ -34,7 +34,7 @@ fn shift_of(r: usize) -> usize
 
 // 4.2.2: each row turned.
 fn shift_row(s: [[u8; 8]; 4]) -> [[u8; 8]; 4]
-    ensures { result ≡ shiftRow s }
+    ensures { result ≡ shift_row s }
 {
     let mut t = s;
     for r in 0..4 {
@@ -47,14 +47,14 @@ fn shift_row(s: [[u8; 8]; 4]) -> [[u8; 8]; 4]
 
 // 4.2.3: one byte of a mixed column, from the column's bytes from that row on downwards.
 fn mixed_byte(a: u8, b: u8, c: u8, d: u8) -> u8
-    ensures { result ≡ mixedByte a b c d }
+    ensures { result ≡ mixed_byte a b c d }
 {
     times(2, a) ^ times(3, b) ^ c ^ d
 }
 
 // 4.2.3: each column times 03 x^3 + 01 x^2 + 01 x + 02.
 fn mix_column(s: [[u8; 8]; 4]) -> [[u8; 8]; 4]
-    ensures { result ≡ mixColumn s }
+    ensures { result ≡ mix_column s }
 {
     let mut t = s;
     for r in 0..4 {
@@ -73,7 +73,7 @@ fn mix_column(s: [[u8; 8]; 4]) -> [[u8; 8]; 4]
 // 4.2.4: round n's key is words 8 n to 8 n + 7, one to a column.
 pub fn add_round_key(s: [[u8; 8]; 4], w: [[u8; 4]; 120], n: usize) -> [[u8; 8]; 4]
     requires { n < 15 }
-    ensures { result ≡ addRoundKey (words_of w) n s }
+    ensures { result ≡ add_round_key (words_of w) n s }
 {
     let mut t = s;
     for r in 0..4 {
@@ -87,7 +87,7 @@ pub fn add_round_key(s: [[u8; 8]; 4], w: [[u8; 4]; 120], n: usize) -> [[u8; 8]; 
 // 4.2: Round.
 pub fn round(s: [[u8; 8]; 4], w: [[u8; 4]; 120], n: usize) -> [[u8; 8]; 4]
     requires { n < 15 }
-    ensures { result ≡ roundOf (words_of w) n s }
+    ensures { result ≡ round_of (words_of w) n s }
 {
     add_round_key(mix_column(shift_row(byte_sub(s))), w, n)
 }
@@ -95,7 +95,7 @@ pub fn round(s: [[u8; 8]; 4], w: [[u8; 4]; 120], n: usize) -> [[u8; 8]; 4]
 // 4.2: FinalRound, which mixes no column.
 pub fn final_round(s: [[u8; 8]; 4], w: [[u8; 4]; 120], n: usize) -> [[u8; 8]; 4]
     requires { n < 15 }
-    ensures { result ≡ finalRound (words_of w) n s }
+    ensures { result ≡ final_round (words_of w) n s }
 {
     add_round_key(shift_row(byte_sub(s)), w, n)
 }

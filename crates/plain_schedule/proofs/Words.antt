@@ -18,9 +18,9 @@ use mir.Val.{Val}
 use Rattle.laws.specs.Lists.{tabulate}
 use Rattle.laws.proofs.Cases.{eq-or-ne}
 use Rattle.laws.proofs.Lists.{length-tabulate, get_d_tabulate, tabulate-ext, tabulate-at}
-use Rattle.gf256.specs.Field.{sBox}
+use Rattle.gf256.specs.Field.{s_box}
 use Rattle.words.specs.Words.{join, byte_of}
-use Rattle.schedule.specs.Schedule.{rotByte, subByte, carried, keyWord}
+use Rattle.schedule.specs.Schedule.{rot_byte, sub_byte, carried, key_word}
 use Rattle.schedule.proofs.KeyWords.{word_next}
 use Rattle.plain_schedule.specs.Bytes.{word_of, words_of}
 
@@ -62,13 +62,13 @@ module _ (a b c d : ℕ) (hb : b < 256) (hc : c < 256) (hd : d < 256) where
   fourth : join a b c d % 256 ≡ d
   fourth = low _ (a * 65536 + b * 256 + c) d (omega arith) hd
 
-  pub rot-join : join b c d a ≡ rotByte (join a b c d)
-  unfolding rotByte
+  pub rot-join : join b c d a ≡ rot_byte (join a b c d)
+  unfolding rot_byte
   rot-join = let e = first in omega arith
 
-  pub sub-join : join (sBox a) (sBox b) (sBox c) (sBox d) ≡ subByte (join a b c d)
-  unfolding subByte
-  sub-join = sym (λ i. join (sBox (first i)) (sBox (second i)) (sBox (third i)) (sBox (fourth i)))
+  pub sub-join : join (s_box a) (s_box b) (s_box c) (s_box d) ≡ sub_byte (join a b c d)
+  unfolding sub_byte
+  sub-join = sym (λ i. join (s_box (first i)) (s_box (second i)) (s_box (third i)) (s_box (fourth i)))
 
 -- byte r of the word of four bytes is the byte with the number r
 pub byte_at : (x : List ℕ) → ((k : ℕ) → get_or x k 0 < 256) → (r : ℕ) → r < 4 → byte_of (word_of x) r ≡ get_or x r 0
@@ -110,28 +110,28 @@ sum-join a b c d e f g h hb hc hd hf hg hh =
 -- the schedule, after i of its words
 
 abbrev pub Expanded : List ℕ → List (List ℕ) → ℕ → Type 0
-Expanded key w i = (k : ℕ) → k < i → word_of (get_or w k []) ≡ keyWord key k
+Expanded key w i = (k : ℕ) → k < i → word_of (get_or w k []) ≡ key_word key k
 
-pub expanded-more : (key : List ℕ) (w : List (List ℕ)) (i : ℕ) (v : List ℕ) → i < length w → Expanded key w i → word_of v ≡ keyWord key i → Expanded key (set w i v) (i + 1)
+pub expanded-more : (key : List ℕ) (w : List (List ℕ)) (i : ℕ) (v : List ℕ) → i < length w → Expanded key w i → word_of v ≡ key_word key i → Expanded key (set w i v) (i + 1)
 expanded-more key w i v l g e k h = ⊎_elim same other (eq-or-ne k i)
   where
-    same : k ≡ i → word_of (get_or (set w i v) k []) ≡ keyWord key k
+    same : k ≡ i → word_of (get_or (set w i v) k []) ≡ key_word key k
     same q = rw q (ap word_of (get_or-set_same w i v [] l) ∙ e)
 
-    other : (k ≡ i → ⊥) → word_of (get_or (set w i v) k []) ≡ keyWord key k
+    other : (k ≡ i → ⊥) → word_of (get_or (set w i v) k []) ≡ key_word key k
     other ne = ap word_of (get_or-set_other w i k v [] ne) ∙ g k (omega (arith, ne))
 
 -- what is made of words that are right is the next one
 pub expanded-next : (key : List ℕ) (w : List (List ℕ)) (i : ℕ) → 6 ≤ i → Expanded key w i
-    → bit_xor (word_of (get_or w (i - 6) [])) (carried i (word_of (get_or w (i - 1) []))) ≡ keyWord key i
+    → bit_xor (word_of (get_or w (i - 6) [])) (carried i (word_of (get_or w (i - 1) []))) ≡ key_word key i
 expanded-next key w i h g =
     let p : i - 6 + 6 ≡ i = omega arith in
     let q : i - 6 + 5 ≡ i - 1 = omega arith in
     (λ j. bit_xor (g (i - 6) (omega arith) j) (carried i (g (i - 1) (omega arith) j)))
-    ∙ sym (ap (keyWord key) (sym p) ∙ word_next key (i - 6) ∙ rw (p, q))
+    ∙ sym (ap (key_word key) (sym p) ∙ word_next key (i - 6) ∙ rw (p, q))
 
-pub expanded-all : (key : List ℕ) (w : List (List ℕ)) (i : ℕ) → 120 ≤ i → Expanded key w i → words_of w ≡ tabulate (keyWord key) 0 120
+pub expanded-all : (key : List ℕ) (w : List (List ℕ)) (i : ℕ) → 120 ≤ i → Expanded key w i → words_of w ≡ tabulate (key_word key) 0 120
 unfolding words_of
 expanded-all key w i h g =
-    tabulate-ext (keyWord key) 0 120 0 (words_of w) (length-tabulate _ 0 120)
+    tabulate-ext (key_word key) 0 120 0 (words_of w) (length-tabulate _ 0 120)
     (λ k l. get_d_tabulate _ 0 120 k 0 l ∙ rw zero-add (g k (omega arith)))

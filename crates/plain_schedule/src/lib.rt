@@ -2,7 +2,7 @@
 ghost use Rattle.std.specs.Prelude.{[], ◌≡◌, ◌<◌, ◌≤◌, ◌-◌, get_or};
 ghost use Rattle.std.specs.Int.Bits.{bit_xor};
 ghost use Rattle.laws.specs.Lists.{tabulate};
-ghost use Rattle.schedule.specs.Schedule.{rotByte, subByte, roundConstant, carried, packed, keyWord};
+ghost use Rattle.schedule.specs.Schedule.{rot_byte, sub_byte, round_constant, carried, packed, key_word};
 ghost use Rattle.plain_schedule.specs.Bytes.{word_of, words_of};
 
 use plain_field::galois::xtime;
@@ -10,21 +10,21 @@ use plain_field::s_box::s_box;
 
 // 4.3.1, RotByte: a, b, c, d become b, c, d, a.
 fn rot_byte(x: [u8; 4]) -> [u8; 4]
-    ensures { word_of result ≡ rotByte (word_of x) }
+    ensures { word_of result ≡ rot_byte (word_of x) }
 {
     [x[1], x[2], x[3], x[0]]
 }
 
 // 4.3.1, SubByte: each byte through the S-box.
 fn sub_byte(x: [u8; 4]) -> [u8; 4]
-    ensures { word_of result ≡ subByte (word_of x) }
+    ensures { word_of result ≡ sub_byte (word_of x) }
 {
     [s_box(x[0]), s_box(x[1]), s_box(x[2]), s_box(x[3])]
 }
 
 // 4.3.1: the round constants 01, 02, 04, .., each x times the one before it.
 fn round_constant(n: usize) -> u8
-    ensures { result ≡ roundConstant n }
+    ensures { result ≡ round_constant n }
 {
     let mut c = 1;
     for _ in 0..n {
@@ -69,7 +69,7 @@ fn next_word(w: [[u8; 4]; 120], i: usize) -> [u8; 4]
 
 // 4.3.1, KeyExpansion: the key's six words, and then 114 more.
 pub fn key_expansion(key: [u8; 24]) -> [[u8; 4]; 120]
-    ensures { words_of result ≡ tabulate (keyWord key) 0 120 }
+    ensures { words_of result ≡ tabulate (key_word key) 0 120 }
 {
     let mut w = [[0u8; 4]; 120];
     for i in 0..120 {

@@ -8,9 +8,9 @@ use lib.Dec.{eqb, ltb}
 use borrow.Author.Tests.{eq-eqb, ne_eqb, le-ltb, lt-ltb}
 use Rattle.laws.specs.Choice.{pick}
 use Rattle.laws.proofs.Cases.{eq-or-ne}
-use Rattle.refusals.specs.Numbers.{done, pduCodeUnknown, pduPartsDontFit, refuse}
+use Rattle.refusals.specs.Numbers.{done, pdu_code_unknown, pdu_parts_dont_fit, refuse}
 use Rattle.plan.specs.declared.Plan.{Plan}
-use Rattle.plan.specs.Plan.{codesUnknown, partsDontFit, planRefusal, refusedPlan, plannedPieces, plan_of}
+use Rattle.plan.specs.Plan.{codes_unknown, parts_dont_fit, plan_refusal, refused_plan, planned_pieces, plan_of}
 
 above : (k : ℕ) → (k ≡ 0 → ⊥) → (k ≡ 1 → ⊥) → (k ≡ 2 → ⊥) → (k ≡ 3 → ⊥) → 3 < k
 above zero n0 n1 n2 n3 = absurd (n0 refl)
@@ -20,28 +20,28 @@ above (suc (suc (suc zero))) n0 n1 n2 n3 = absurd (n3 refl)
 above (suc (suc (suc (suc k)))) n0 n1 n2 n3 = omega arith
 
 module _ (kind state f g l a s : ℕ) (hf : f ≤ 1) (hg : g ≤ 1) where
-  codes : codesUnknown kind state f l ≡ codesUnknown kind state g l
+  codes : codes_unknown kind state f l ≡ codes_unknown kind state g l
   codes = rw (le-ltb 1 f hf, le-ltb 1 g hg)
 
   -- the same tests and the same pieces
-  alike : partsDontFit kind state f l a s ≡ partsDontFit kind state g l a s → plannedPieces kind state f l a s ≡ plannedPieces kind state g l a s
+  alike : parts_dont_fit kind state f l a s ≡ parts_dont_fit kind state g l a s → planned_pieces kind state f l a s ≡ planned_pieces kind state g l a s
       → plan_of kind state f l a s ≡ plan_of kind state g l a s
-  unfolding plan_of planRefusal
+  unfolding plan_of plan_refusal
   alike parts pieces i =
-      let r = refuse (codes i) pduCodeUnknown (refuse (parts i) pduPartsDontFit done) in
-      pick (eqb r done) (pieces i) (refusedPlan r)
+      let r = refuse (codes i) pdu_code_unknown (refuse (parts i) pdu_parts_dont_fit done) in
+      pick (eqb r done) (pieces i) (refused_plan r)
 
   -- refused with 18, whatever the flag
-  unknown : codesUnknown kind state f l ≡ true → plan_of kind state f l a s ≡ plan_of kind state g l a s
-  unfolding plan_of planRefusal
+  unknown : codes_unknown kind state f l ≡ true → plan_of kind state f l a s ≡ plan_of kind state g l a s
+  unfolding plan_of plan_refusal
   unknown e = rw (e, sym codes ∙ e)
 
   other-state : (state ≡ 1 → ⊥) → plan_of kind state f l a s ≡ plan_of kind state g l a s
-  unfolding plannedPieces
+  unfolding planned_pieces
   other-state ne = alike (rw (ne_eqb state 1 ne)) (rw (ne_eqb state 1 ne))
 
   other-kind : (kind ≡ 2 → ⊥) → plan_of kind state f l a s ≡ plan_of kind state g l a s
-  unfolding plannedPieces
+  unfolding planned_pieces
   other-kind ne =
       ⊎_elim
       (λ e. unknown (rw (eq-eqb kind 0 e)))

@@ -1,7 +1,7 @@
 // Which bits of a direct mode PDU are ciphered, and by which keystream bits (document 01, "Plan of a direct mode PDU").
 ghost use Rattle.std.specs.Prelude.{◌≡◌, ◌+◌, ◌≤◌, ltb};
 ghost use Rattle.refusals.specs.Numbers.{done};
-ghost use Rattle.plan.specs.Plan.{addressBits, restFrom, addressFrom, clearHead, secondSkip, longestPdu, pastKeystream, codesUnknown, partsDontFit, planRefusal, withPieces, refusedPlan, plannedPieces, plan_of};
+ghost use Rattle.plan.specs.Plan.{address_bits, rest_from, address_from, clear_head, second_skip, longest_pdu, past_keystream, codes_unknown, parts_dont_fit, plan_refusal, with_pieces, refused_plan, planned_pieces, plan_of};
 
 use refusals::{DONE, PDU_CODE, PDU_PARTS};
 
@@ -40,7 +40,7 @@ const NO_PIECE: Piece = Piece {
 
 // The piece from a bit to the end of the PDU; a piece of length 0 is left out.
 fn rest_from(from: usize, length: usize, skip: usize) -> Piece
-    ensures { result ≡ restFrom from length skip }
+    ensures { result ≡ rest_from from length skip }
 {
     if from < length {
         return Piece {
@@ -53,7 +53,7 @@ fn rest_from(from: usize, length: usize, skip: usize) -> Piece
 }
 
 fn address_from(address: usize) -> Piece
-    ensures { result ≡ addressFrom address }
+    ensures { result ≡ address_from address }
 {
     Piece {
         start: address,
@@ -63,7 +63,7 @@ fn address_from(address: usize) -> Piece
 }
 
 fn with_pieces(first: Piece, second: Piece) -> Plan
-    ensures { result ≡ withPieces first second }
+    ensures { result ≡ with_pieces first second }
 {
     Plan {
         refusal: DONE,
@@ -73,7 +73,7 @@ fn with_pieces(first: Piece, second: Piece) -> Plan
 }
 
 pub fn refused_plan(number: u8) -> Plan
-    ensures { result ≡ refusedPlan number }
+    ensures { result ≡ refused_plan number }
 {
     Plan {
         refusal: number,
@@ -84,7 +84,7 @@ pub fn refused_plan(number: u8) -> Plan
 
 // The bits at the front that stay clear in state 1.
 fn clear_head(kind: u64, flag: u64) -> usize
-    ensures { result ≡ clearHead kind flag }
+    ensures { result ≡ clear_head kind flag }
 {
     if kind == DMAC_DATA {
         return 10;
@@ -97,30 +97,30 @@ fn clear_head(kind: u64, flag: u64) -> usize
 
 // The DM-SDU starts before the address ends. An address may start anywhere, so its end is not summed.
 fn starts_early(address: usize, sdu: usize) -> bool
-    ensures { result ≡ ltb sdu (address + addressBits) }
+    ensures { result ≡ ltb sdu (address + address_bits) }
 {
     sdu < ADDRESS_BITS || sdu - ADDRESS_BITS < address
 }
 
 // The keystream bit at which the DM-SDU starts in state 3.
 fn second_skip(address: usize, sdu: usize) -> usize
-    requires { (address + addressBits ≤ sdu) × (sdu ≤ longestPdu) }
-    ensures { result ≡ secondSkip address sdu }
+    requires { (address + address_bits ≤ sdu) × (sdu ≤ longest_pdu) }
+    ensures { result ≡ second_skip address sdu }
 {
     ADDRESS_BITS + (sdu - address - ADDRESS_BITS) + 1
 }
 
 // The DM-SDU needs a keystream bit past the last. Its skip and its bits are length - address + 1 together, compared without that sum.
 fn past_keystream(length: usize, address: usize, sdu: usize) -> bool
-    requires { (address + addressBits ≤ sdu) × (sdu ≤ length) }
-    ensures { result ≡ pastKeystream length address sdu }
+    requires { (address + address_bits ≤ sdu) × (sdu ≤ length) }
+    ensures { result ≡ past_keystream length address sdu }
 {
     sdu < length && KEYSTREAM_BITS <= length - address
 }
 
 // `|` and not `||`: the tests of one number have no order.
 fn codes_unknown(kind: u64, state: u64, flag: u64, length: usize) -> bool
-    ensures { result ≡ codesUnknown kind state flag length }
+    ensures { result ≡ codes_unknown kind state flag length }
 {
     (kind == 0) | (kind > 3) | (state > 3) | (flag > 1) | (length > LONGEST_PDU)
 }
@@ -133,7 +133,7 @@ fn parts_dont_fit(
     address: usize,
     sdu: usize,
 ) -> bool
-    ensures { result ≡ partsDontFit kind state flag length address sdu }
+    ensures { result ≡ parts_dont_fit kind state flag length address sdu }
 {
     if (kind == SYNC_ON_SCH_S) | (state == 0) {
         return false;
@@ -151,7 +151,7 @@ fn parts_dont_fit(
 }
 
 fn plan_refusal(kind: u64, state: u64, flag: u64, length: usize, address: usize, sdu: usize) -> u8
-    ensures { result ≡ planRefusal kind state flag length address sdu }
+    ensures { result ≡ plan_refusal kind state flag length address sdu }
 {
     if codes_unknown(kind, state, flag, length) {
         return PDU_CODE;
@@ -171,8 +171,8 @@ fn planned_pieces(
     address: usize,
     sdu: usize,
 ) -> Plan
-    requires { planRefusal kind state flag length address sdu ≡ done }
-    ensures { result ≡ plannedPieces kind state flag length address sdu }
+    requires { plan_refusal kind state flag length address sdu ≡ done }
+    ensures { result ≡ planned_pieces kind state flag length address sdu }
 {
     if (kind == SYNC_ON_SCH_S) | (state == 0) {
         return with_pieces(NO_PIECE, NO_PIECE);

@@ -13,10 +13,10 @@ use Rattle.laws.specs.Choice.{pick}
 use Rattle.laws.proofs.Cases.{lt-or-le, pick-taken, pick-left}
 use Rattle.reading.specs.declared.Reading.{Reading}
 use Rattle.writing.specs.Text.{lf}
-use Rattle.forms.specs.Form.{Form, done, next, Outcome, found, wrong, readAt, literal, ◌>>=◌}
-use Rattle.forms.specs.Decimals.{mayFollow, after}
-use Rattle.forms.specs.Hexes.{hexOr, halfByte}
-use Rattle.reading.specs.Reading.{goodTo, onward, answer}
+use Rattle.forms.specs.Form.{Form, done, next, Outcome, found, wrong, read_at, literal, ◌>>=◌}
+use Rattle.forms.specs.Decimals.{may_follow, after}
+use Rattle.forms.specs.Hexes.{hex_or, half_byte}
+use Rattle.reading.specs.Reading.{good_to, onward, answer}
 use Rattle.forms.proofs.Hexes.{no_digit, a-digit}
 use Rattle.forms.proofs.Decimals.{after_is, or_right}
 use Rattle.forms.proofs.Forms.{Spells, spelt, onto, both_read}
@@ -32,21 +32,21 @@ module _ {A : Type 0} (before : Reading) (f : Form A) (s : List ℕ) where
   unfolding onward
   on-wrong h = pick-taken before.good _ _ h
 
-  pub on-good : not before.good ≡ false → onward before f s ≡ readAt f s before.place
+  pub on-good : not before.good ≡ false → onward before f s ≡ read_at f s before.place
   unfolding onward
   on-good h = pick-left before.good _ _ h
 
-  pub on_both : {B : Type 0} (g : A → Form B) → onward before (f >>= g) s ≡ onto (onward before f s) (λ v q. readAt (g v) s q)
+  pub on_both : {B : Type 0} (g : A → Form B) → onward before (f >>= g) s ≡ onto (onward before f s) (λ v q. read_at (g v) s q)
   unfolding onward
   on_both {B} g = go before.good
     where
-      go : (t : Bool) → pick t (readAt (f >>= g) s before.place) (wrong before.place)
-          ≡ onto (pick t (readAt f s before.place) (wrong before.place)) (λ v q. readAt (g v) s q)
+      go : (t : Bool) → pick t (read_at (f >>= g) s before.place) (wrong before.place)
+          ≡ onto (pick t (read_at f s before.place) (wrong before.place)) (λ v q. read_at (g v) s q)
       go true = both_read f g s before.place
       go false = refl
 
 -- from a place
-pub on-at : {A : Type 0} (f : Form A) (s : List ℕ) {a : Reading} {v p : ℕ} → a ≡ goodTo v p → onward a f s ≡ readAt f s p
+pub on-at : {A : Type 0} (f : Form A) (s : List ℕ) {a : Reading} {v p : ℕ} → a ≡ good_to v p → onward a f s ≡ read_at f s p
 unfolding onward
 on-at f s e = ap (λ (x : Reading). onward x f s) e
 
@@ -57,7 +57,7 @@ unfolding onward
 on_then {B} before f g s {a} e =
     on_both before f s g ∙ go (onward before f s) ∙ ap (λ (x : Reading). onward x (g x.value) s) (sym e)
   where
-    go : (o : Outcome ℕ) → onto o (λ v q. readAt (g v) s q) ≡ onward (answer o) (g (answer o).value) s
+    go : (o : Outcome ℕ) → onto o (λ v q. read_at (g v) s q) ≡ onward (answer o) (g (answer o).value) s
     go (found v q) = refl
     go (wrong q) = refl
 
@@ -67,60 +67,60 @@ pub on_value : (P : ℕ → Type 0) (before : Reading) (f : Form ℕ) (s : List 
 unfolding onward
 on_value P before f s {a} e z h = subst (λ (x : Reading). P x.value) (sym e) (go before.good)
   where
-    one : (o : Outcome ℕ) → readAt f s before.place ≡ o → P (answer o).value
+    one : (o : Outcome ℕ) → read_at f s before.place ≡ o → P (answer o).value
     one (found v q) k = let r = spelt f s before.place v q k in h v r.text r.spells
     one (wrong q) k = z
 
-    go : (t : Bool) → P (answer (pick t (readAt f s before.place) (wrong before.place))).value
-    go true = one (readAt f s before.place) refl
+    go : (t : Bool) → P (answer (pick t (read_at f s before.place) (wrong before.place))).value
+    go true = one (read_at f s before.place) refl
     go false = z
 
 -- one byte
 
-pub step-done : {A : Type 0} (v : A) (s : List ℕ) (p : ℕ) → readAt (done v) s p ≡ found v p
-unfolding readAt
+pub step-done : {A : Type 0} (v : A) (s : List ℕ) (p : ℕ) → read_at (done v) s p ≡ found v p
+unfolding read_at
 step-done v s p = refl
 
 module _ {A : Type 0} (may : ℕ → Bool) (then : ℕ → Form A) (s : List ℕ) (p : ℕ) where
-  pub step_end : length s ≤ p → readAt (next may then) s p ≡ wrong p
-  unfolding readAt
+  pub step_end : length s ≤ p → read_at (next may then) s p ≡ wrong p
+  unfolding read_at
   step_end h = rw (le-ltb p (length s) h)
 
-  pub step-yes : p < length s → may (get_or s p 0) ≡ true → readAt (next may then) s p ≡ readAt (then (get_or s p 0)) s (p + 1)
-  unfolding readAt
+  pub step-yes : p < length s → may (get_or s p 0) ≡ true → read_at (next may then) s p ≡ read_at (then (get_or s p 0)) s (p + 1)
+  unfolding read_at
   step-yes h e = rw (lt-ltb p (length s) h, e, add-one)
 
-  pub step-no : p < length s → may (get_or s p 0) ≡ false → readAt (next may then) s p ≡ wrong p
-  unfolding readAt
+  pub step-no : p < length s → may (get_or s p 0) ≡ false → read_at (next may then) s p ≡ wrong p
+  unfolding read_at
   step-no h e = rw (lt-ltb p (length s) h, e)
 
 -- given bytes, of which i are read
 
 module _ (bytes : List ℕ) (i : ℕ) (s : List ℕ) (p : ℕ) where
-  pub literal-all : length bytes ≤ i → readAt (literal (drop i bytes)) s p ≡ found 0 p
-  unfolding readAt literal
+  pub literal-all : length bytes ≤ i → read_at (literal (drop i bytes)) s p ≡ found 0 p
+  unfolding read_at literal
   literal-all h = rw (drop_of_length-le bytes h)
 
-  pub literal-end : i < length bytes → length s ≤ p → readAt (literal (drop i bytes)) s p ≡ wrong p
+  pub literal-end : i < length bytes → length s ≤ p → read_at (literal (drop i bytes)) s p ≡ wrong p
   unfolding literal
   literal-end g h = rw (drop-cons bytes i 0 g) (step_end _ _ s p h)
 
-  pub literal-no : i < length bytes → p < length s → (get_or s p 0 ≡ get_or bytes i 0 → ⊥) → readAt (literal (drop i bytes)) s p ≡ wrong p
+  pub literal-no : i < length bytes → p < length s → (get_or s p 0 ≡ get_or bytes i 0 → ⊥) → read_at (literal (drop i bytes)) s p ≡ wrong p
   unfolding literal
   literal-no g h n = rw (drop-cons bytes i 0 g) (step-no _ _ s p h (ne_eqb _ _ n))
 
   pub literal-yes : i < length bytes → p < length s → get_or s p 0 ≡ get_or bytes i 0
-      → readAt (literal (drop i bytes)) s p ≡ readAt (literal (drop (i + 1) bytes)) s (p + 1)
+      → read_at (literal (drop i bytes)) s p ≡ read_at (literal (drop (i + 1) bytes)) s (p + 1)
   unfolding literal
   literal-yes g h e = rw (add-one i, drop-cons bytes i 0 g) (step-yes _ _ s p h (eq-eqb _ _ e))
 
 -- a hex digit, whose value or else 16 is v
 
-module _ (s : List ℕ) (p v : ℕ) (h : p < length s) (e : v ≡ hexOr (get_or s p 0)) where
-  pub half-no : v ≡ 16 → readAt halfByte s p ≡ wrong p
+module _ (s : List ℕ) (p v : ℕ) (h : p < length s) (e : v ≡ hex_or (get_or s p 0)) where
+  pub half-no : v ≡ 16 → read_at half_byte s p ≡ wrong p
   half-no z = step-no _ _ s p h (no_digit _ _ e z)
 
-  pub half-yes : (v ≡ 16 → ⊥) → readAt halfByte s p ≡ found v (p + 1)
+  pub half-yes : (v ≡ 16 → ⊥) → read_at half_byte s p ≡ found v (p + 1)
   half-yes z =
       let d = a-digit _ _ e z in
       step-yes _ _ s p h d.0 ∙ step-done _ s (p + 1) ∙ ap (λ (n : ℕ). found n (p + 1)) (sym d.1)
@@ -128,22 +128,22 @@ module _ (s : List ℕ) (p v : ℕ) (h : p < length s) (e : v ≡ hexOr (get_or 
 -- a number, after digits of the value n
 
 module _ (high n : ℕ) (s : List ℕ) (p : ℕ) where
-  pub after-end : length s ≤ p → readAt (after high n) s p ≡ wrong p
+  pub after-end : length s ≤ p → read_at (after high n) s p ≡ wrong p
   after-end h = rw (after_is high n) (step_end _ _ s p h)
 
-  pub after-lf : p < length s → get_or s p 0 ≡ lf → readAt (after high n) s p ≡ found n (p + 1)
-  unfolding mayFollow
+  pub after-lf : p < length s → get_or s p 0 ≡ lf → read_at (after high n) s p ≡ found n (p + 1)
+  unfolding may_follow
   after-lf h e =
-      ap (λ (f : Form ℕ). readAt f s p) (after_is high n)
-      ∙ step-yes _ _ s p h (ap (λ (b : ℕ). eqb b lf || mayFollow high n b) e)
-      ∙ ap (λ (b : ℕ). readAt (pick (mayFollow high n b) (after high (n * 10 + (b - 48))) (done n)) s (p + 1)) e
+      ap (λ (f : Form ℕ). read_at f s p) (after_is high n)
+      ∙ step-yes _ _ s p h (ap (λ (b : ℕ). eqb b lf || may_follow high n b) e)
+      ∙ ap (λ (b : ℕ). read_at (pick (may_follow high n b) (after high (n * 10 + (b - 48))) (done n)) s (p + 1)) e
       ∙ step-done n s (p + 1)
 
-  pub after-no : p < length s → (get_or s p 0 ≡ lf → ⊥) → mayFollow high n (get_or s p 0) ≡ false → readAt (after high n) s p ≡ wrong p
+  pub after-no : p < length s → (get_or s p 0 ≡ lf → ⊥) → may_follow high n (get_or s p 0) ≡ false → read_at (after high n) s p ≡ wrong p
   after-no h z e = rw (after_is high n) (step-no _ _ s p h (rw (ne_eqb _ _ z) e))
 
-  pub after-digit : p < length s → mayFollow high n (get_or s p 0) ≡ true → readAt (after high n) s p ≡ readAt (after high (n * 10 + (get_or s p 0 - 48))) s (p + 1)
+  pub after-digit : p < length s → may_follow high n (get_or s p 0) ≡ true → read_at (after high n) s p ≡ read_at (after high (n * 10 + (get_or s p 0 - 48))) s (p + 1)
   after-digit h e =
-      ap (λ (f : Form ℕ). readAt f s p) (after_is high n)
+      ap (λ (f : Form ℕ). read_at f s p) (after_is high n)
       ∙ step-yes _ _ s p h (ap (λ (t : Bool). eqb (get_or s p 0) lf || t) e ∙ or_right (eqb (get_or s p 0) lf))
-      ∙ ap (λ (t : Bool). readAt (pick t (after high (n * 10 + (get_or s p 0 - 48))) (done n)) s (p + 1)) e
+      ∙ ap (λ (t : Bool). read_at (pick t (after high (n * 10 + (get_or s p 0 - 48))) (done n)) s (p + 1)) e

@@ -2,21 +2,21 @@
 use Rattle.std.specs.Prelude.{List, true, false, ◌||◌, ℕ, ltb}
 use Rattle.laws.specs.Choice.{pick}
 use Rattle.reading.specs.declared.Reading.{Reading}
-use Rattle.forms.specs.Form.{Form, Outcome, found, wrong, readAt}
+use Rattle.forms.specs.Form.{Form, Outcome, found, wrong, read_at}
 
 -- the text s read on by a form; where what was read before is wrong, so is this
 unfoldable pub onward : {A : Type 0} → Reading → Form A → List ℕ → Outcome A
-onward before f s = pick before.good (readAt f s before.place) (wrong before.place)
+onward before f s = pick before.good (read_at f s before.place) (wrong before.place)
 
-abbrev pub goodTo : ℕ → ℕ → Reading
-goodTo v p = record { good = true; value = v; place = p }
+abbrev pub good_to : ℕ → ℕ → Reading
+good_to v p = record { good = true; value = v; place = p }
 
-abbrev pub wrongAt : ℕ → Reading
-wrongAt p = record { good = false; value = 0; place = p }
+abbrev pub wrong_at : ℕ → Reading
+wrong_at p = record { good = false; value = 0; place = p }
 
 abbrev pub answer : Outcome ℕ → Reading
-answer (found v p) = goodTo v p
-answer (wrong p) = wrongAt p
+answer (found v p) = good_to v p
+answer (wrong p) = wrong_at p
 
 -- of two readings from one place: the good one, or else the one that came further
 abbrev pub further : Reading → Reading → Reading

@@ -1,9 +1,9 @@
 // Readers of text: given bytes, decimal numbers, words, hex digits. Each goes on after what was read before it, and passes on a wrong place that was found there.
 ghost use Rattle.std.specs.Prelude.{◌≡◌, ◌≤◌};
-ghost use Rattle.forms.specs.Form.{done, readAt, literal, named};
-ghost use Rattle.forms.specs.Decimals.{isDigit, mayBegin, mayFollow, after, decimal};
+ghost use Rattle.forms.specs.Form.{done, read_at, literal, named};
+ghost use Rattle.forms.specs.Decimals.{is_digit, may_begin, may_follow, after, decimal};
 ghost use Rattle.forms.specs.Words.{one_of};
-ghost use Rattle.reading.specs.Reading.{goodTo, wrongAt, onward, answer, further};
+ghost use Rattle.reading.specs.Reading.{good_to, wrong_at, onward, answer, further};
 
 // What is read so far: the last value and the place after its text; or, once a byte is wrong, no value and the place of that byte.
 #[derive(Drop)]
@@ -14,7 +14,7 @@ pub struct Reading {
 }
 
 pub fn good_to(value: u64, place: usize) -> Reading
-    ensures { result ≡ goodTo value place }
+    ensures { result ≡ good_to value place }
 {
     Reading {
         good: true,
@@ -24,7 +24,7 @@ pub fn good_to(value: u64, place: usize) -> Reading
 }
 
 pub fn wrong_at(place: usize) -> Reading
-    ensures { result ≡ wrongAt place }
+    ensures { result ≡ wrong_at place }
 {
     Reading {
         good: false,
@@ -56,14 +56,14 @@ pub fn read_literal<'a>(s: &'a [u8], before: Reading, bytes: &'a [u8]) -> Readin
 }
 
 fn is_digit(b: u8) -> bool
-    ensures { result ≡ isDigit b }
+    ensures { result ≡ is_digit b }
 {
     48 <= b && b <= 57
 }
 
 // May a number from `low` to `high` begin with the byte `b`?
 pub fn may_begin(low: u64, high: u64, b: u8) -> bool
-    ensures { result ≡ mayBegin low high b }
+    ensures { result ≡ may_begin low high b }
 {
     if !is_digit(b) {
         return false;
@@ -74,7 +74,7 @@ pub fn may_begin(low: u64, high: u64, b: u8) -> bool
 
 // May the byte `b` follow digits of the value `n`? The number that they make is not made here: it may be too large for a machine.
 pub fn may_follow(high: u64, n: u64, b: u8) -> bool
-    ensures { result ≡ mayFollow high n b }
+    ensures { result ≡ may_follow high n b }
 {
     if !is_digit(b) {
         return false;
@@ -91,7 +91,7 @@ pub fn may_follow(high: u64, n: u64, b: u8) -> bool
 
 // After digits of the value `n`: more digits, and LF.
 fn read_after(s: &[u8], at: usize, high: u64, n: u64) -> Reading
-    ensures { result ≡ answer (readAt (after high n) s.now at) }
+    ensures { result ≡ answer (read_at (after high n) s.now at) }
 {
     let mut value = n;
     let mut i = at;

@@ -5,7 +5,7 @@ use mathlib.Core.Bool.{Bool, true, false}
 use Prim.Native.Nat.{ℕ, ◌≤◌}
 use Prim.Native.String.{String}
 use Rattle.algorithms.specs.Algorithm.{name_of}
-use Rattle.fields.specs.Fields.{isAlgorithm, isUse}
+use Rattle.fields.specs.Fields.{is_algorithm, is_use}
 use Rattle.fields.specs.declared.Fields.{Fields}
 use native.Mathlib.Omega.{arith}
 use borrow.Author.Tests.{leb-true, le-leb}
@@ -13,13 +13,13 @@ use Rattle.fields.proofs.Ranges.{between-low, between-high}
 use Rattle.laws.specs.Choice.{pick}
 use Rattle.reading.specs.declared.Reading.{Reading}
 use Rattle.record_reader.specs.declared.KeyReading.{KeyReading}
-use Rattle.reading.specs.Reading.{onward, goodTo, answer}
-use Rattle.record_reader.specs.Lines.{keyAnswer, useForm, algorithmForm, codeForm, keyForm}
-use Rattle.writing.specs.Text.{ascii, digits, hexText, lineText}
-use Rattle.record_text.specs.Text.{useWord, codeText, linesText, formText, InCode, Good}
-use Rattle.forms.specs.Form.{Form, done, Outcome, found, wrong, readAt, literal, line, ◌>>=◌}
+use Rattle.reading.specs.Reading.{onward, good_to, answer}
+use Rattle.record_reader.specs.Lines.{key_answer, use_form, algorithm_form, code_form, key_form}
+use Rattle.writing.specs.Text.{ascii, digits, hex_text, line_text}
+use Rattle.record_text.specs.Text.{use_word, code_text, lines_text, form_text, InCode, Good}
+use Rattle.forms.specs.Form.{Form, done, Outcome, found, wrong, read_at, literal, line, ◌>>=◌}
 use Rattle.forms.specs.Decimals.{decimal}
-use Rattle.record_reader.specs.Record.{Entry, linesForm, recordForm, opened}
+use Rattle.record_reader.specs.Record.{Entry, lines_form, record_form, opened}
 use Rattle.forms.proofs.Forms.{Spells, onto, Means, line-means, then-means, last-means}
 use Rattle.forms.proofs.Decimals.{decimal-means, between_is}
 use Rattle.record_reader.proofs.Lines.{use-means, algorithm-means, key-means}
@@ -29,7 +29,7 @@ use Rattle.forms.proofs.Hexes.{Bytes}
 -- the lines
 
 abbrev pub NumberLine : String → ℕ → ℕ → Type 0
-NumberLine name low high = Means (line name (decimal low high)) (λ n. (low ≤ n) × (n ≤ high)) (λ n. lineText name (digits n))
+NumberLine name low high = Means (line name (decimal low high)) (λ n. (low ≤ n) × (n ≤ high)) (λ n. line_text name (digits n))
 
 number-line : NumberLine "number=" 1 32
 number-line = line-means "number=" (decimal 1 32) (decimal-means 1 32 (omega arith) (λ _. omega arith))
@@ -37,11 +37,11 @@ number-line = line-means "number=" (decimal 1 32) (decimal-means 1 32 (omega ari
 pub version-line : NumberLine "version=" 0 65535
 version-line = line-means "version=" (decimal 0 65535) (decimal-means 0 65535 (omega arith) (λ _. omega arith))
 
-pub algorithm-line : Means (line "alg=" algorithmForm) (λ a. isAlgorithm a ≡ true) (λ a. lineText "alg=" (name_of a))
-algorithm-line = line-means "alg=" algorithmForm algorithm-means
+pub algorithm-line : Means (line "alg=" algorithm_form) (λ a. is_algorithm a ≡ true) (λ a. line_text "alg=" (name_of a))
+algorithm-line = line-means "alg=" algorithm_form algorithm-means
 
-pub use-line : Means (line "use=" useForm) (λ u. isUse u ≡ true) (λ u. lineText "use=" (useWord u))
-use-line = line-means "use=" useForm use-means
+pub use-line : Means (line "use=" use_form) (λ u. is_use u ≡ true) (λ u. line_text "use=" (use_word u))
+use-line = line-means "use=" use_form use-means
 
 pub side-line : NumberLine "side=" 0 1
 side-line = line-means "side=" (decimal 0 1) (decimal-means 0 1 (omega arith) (λ h. omega arith))
@@ -49,7 +49,7 @@ side-line = line-means "side=" (decimal 0 1) (decimal-means 0 1 (omega arith) (�
 pub place-line : NumberLine "place=" 0 79
 place-line = line-means "place=" (decimal 0 79) (decimal-means 0 79 (omega arith) (λ _. omega arith))
 
-code-line : (two : Bool) (name : String) (high : ℕ) → Means (codeForm two name high) (InCode two high) (codeText two name)
+code-line : (two : Bool) (name : String) (high : ℕ) → Means (code_form two name high) (InCode two high) (code_text two name)
 code-line true name high =
     let m = line-means name (decimal 0 high) (decimal-means 0 high (omega arith) (λ _. omega arith)) in
     record { spells = λ n g. m.spells n (omega arith, g); only = λ n w h. let r = m.only n w h in (r.0.1, r.1); live = m.live }
@@ -59,8 +59,8 @@ code-line false name high = record { spells = λ n g. sym g; only = only; live =
     only n [] h = (sym h, refl)
     only n (b ∷ w) h = absurd h
 
-key-line : Means (line "key=" keyForm) (Bytes 24) (λ key. lineText "key=" (hexText key))
-key-line = line-means "key=" keyForm key-means
+key-line : Means (line "key=" key_form) (Bytes 24) (λ key. line_text "key=" (hex_text key))
+key-line = line-means "key=" key_form key-means
 
 -- the record
 
@@ -71,26 +71,26 @@ abbrev AllGood : Bool → Entry → Type 0
 AllGood two e =
     InRange 1 e.number 32
     × (InRange 0 e.fields.version 65535
-    × ((isAlgorithm e.fields.algorithm ≡ true)
-    × ((isUse e.fields.usage ≡ true)
+    × ((is_algorithm e.fields.algorithm ≡ true)
+    × ((is_use e.fields.usage ≡ true)
     × (InRange 0 e.fields.side 1
     × (InRange 0 e.fields.place 79
     × (InCode two 1023 e.fields.mcc
     × (InCode two 16383 e.fields.mnc
     × Bytes 24 e.key)))))))
 
-lines-mean : (two : Bool) → Means (linesForm two) (λ e. AllGood two e × Unit) (λ e. linesText two e.number e.fields e.key)
-unfolding linesForm linesText
+lines-mean : (two : Bool) → Means (lines_form two) (λ e. AllGood two e × Unit) (λ e. lines_text two e.number e.fields e.key)
+unfolding lines_form lines_text
 lines-mean two =
     then-means (line "number=" (decimal 1 32)) (λ e. e.number) number-line _
     (λ number. then-means (line "version=" (decimal 0 65535)) (λ e. e.fields.version) version-line _
-    (λ version. then-means (line "alg=" algorithmForm) (λ e. e.fields.algorithm) algorithm-line _
-    (λ algorithm. then-means (line "use=" useForm) (λ e. e.fields.usage) use-line _
+    (λ version. then-means (line "alg=" algorithm_form) (λ e. e.fields.algorithm) algorithm-line _
+    (λ algorithm. then-means (line "use=" use_form) (λ e. e.fields.usage) use-line _
     (λ usage. then-means (line "side=" (decimal 0 1)) (λ e. e.fields.side) side-line _
     (λ side. then-means (line "place=" (decimal 0 79)) (λ e. e.fields.place) place-line _
-    (λ place. then-means (codeForm two "mcc=" 1023) (λ e. e.fields.mcc) (code-line two "mcc=" 1023) _
-    (λ mcc. then-means (codeForm two "mnc=" 16383) (λ e. e.fields.mnc) (code-line two "mnc=" 16383) _
-    (λ mnc. last-means (line "key=" keyForm) (λ e. e.key) key-line _
+    (λ place. then-means (code_form two "mcc=" 1023) (λ e. e.fields.mcc) (code-line two "mcc=" 1023) _
+    (λ mcc. then-means (code_form two "mnc=" 16383) (λ e. e.fields.mnc) (code-line two "mnc=" 16383) _
+    (λ mnc. last-means (line "key=" key_form) (λ e. e.key) key-line _
     (λ key. ((((((((tt, refl), refl), refl), refl), refl), refl), refl), refl)) (λ key. refl)
     (λ e k. sym (λ i.
     record {
@@ -168,12 +168,12 @@ small {two} {number} {f} {key} g =
       mnc = code-small two 16383 f.mnc g.mnc;
     }
 
-form-means : (two : Bool) → Means (recordForm two) (λ e. AllGood two e × Unit) (λ e. formText two e.number e.fields e.key)
-unfolding recordForm formText
-form-means true = line-means "form=2\n" (linesForm true) (lines-mean true)
+form-means : (two : Bool) → Means (record_form two) (λ e. AllGood two e × Unit) (λ e. form_text two e.number e.fields e.key)
+unfolding record_form form_text
+form-means true = line-means "form=2\n" (lines_form true) (lines-mean true)
 form-means false = lines-mean false
 
-pub record-means : (two : Bool) → Means (recordForm two) (λ e. Good two e.number e.fields e.key) (λ e. formText two e.number e.fields e.key)
+pub record-means : (two : Bool) → Means (record_form two) (λ e. Good two e.number e.fields e.key) (λ e. form_text two e.number e.fields e.key)
 record-means two =
     let m = form-means two in
     record {
@@ -183,39 +183,39 @@ record-means two =
     }
 
 -- a key, and then what follows it
-key-then : {B : Type 0} (before : Reading) (f : Form (List ℕ)) (g : List ℕ → Form B) (s : List ℕ) {a : KeyReading} → a ≡ keyAnswer (onward before f s)
-    → onward before (f >>= g) s ≡ pick a.good (readAt (g a.key) s a.place) (wrong a.place)
+key-then : {B : Type 0} (before : Reading) (f : Form (List ℕ)) (g : List ℕ → Form B) (s : List ℕ) {a : KeyReading} → a ≡ key_answer (onward before f s)
+    → onward before (f >>= g) s ≡ pick a.good (read_at (g a.key) s a.place) (wrong a.place)
 key-then {B} before f g s {a} e =
     on_both before f s g ∙ go (onward before f s)
-    ∙ ap (λ (x : KeyReading). pick x.good (readAt (g x.key) s x.place) (wrong x.place)) (sym e)
+    ∙ ap (λ (x : KeyReading). pick x.good (read_at (g x.key) s x.place) (wrong x.place)) (sym e)
   where
     go : (o : Outcome (List ℕ))
-        → onto o (λ v q. readAt (g v) s q) ≡ pick (keyAnswer o).good (readAt (g (keyAnswer o).key) s (keyAnswer o).place) (wrong (keyAnswer o).place)
+        → onto o (λ v q. read_at (g v) s q) ≡ pick (key_answer o).good (read_at (g (key_answer o).key) s (key_answer o).place) (wrong (key_answer o).place)
     go (found v q) = refl
     go (wrong q) = refl
 
 -- Reading line after line, each after the one before it, is reading the record.
-opened-on : (two : Bool) (s : List ℕ) → readAt (recordForm two) s 0 ≡ onward (opened two s) (linesForm two) s
-unfolding recordForm opened
-opened-on true s = sym (on-at (recordForm true) s refl) ∙ on_then _ _ _ _ refl
-opened-on false s = sym (on-at (recordForm false) s refl)
+opened-on : (two : Bool) (s : List ℕ) → read_at (record_form two) s 0 ≡ onward (opened two s) (lines_form two) s
+unfolding record_form opened
+opened-on true s = sym (on-at (record_form true) s refl) ∙ on_then _ _ _ _ refl
+opened-on false s = sym (on-at (record_form false) s refl)
 
-module _ (two : Bool) (s : List ℕ) {start number version algName algorithm useName usage side place mcc mnc keyName : Reading} {key : KeyReading} where
+module _ (two : Bool) (s : List ℕ) {start number version alg_name algorithm use_name usage side place mcc mnc key_name : Reading} {key : KeyReading} where
   pub lines-read :
       start ≡ opened two s
       → number ≡ answer (onward start (line "number=" (decimal 1 32)) s)
       → version ≡ answer (onward number (line "version=" (decimal 0 65535)) s)
-      → algName ≡ answer (onward version (literal (ascii "alg=")) s)
-      → algorithm ≡ answer (onward algName algorithmForm s)
-      → useName ≡ answer (onward algorithm (literal (ascii "use=")) s)
-      → usage ≡ answer (onward useName useForm s)
+      → alg_name ≡ answer (onward version (literal (ascii "alg=")) s)
+      → algorithm ≡ answer (onward alg_name algorithm_form s)
+      → use_name ≡ answer (onward algorithm (literal (ascii "use=")) s)
+      → usage ≡ answer (onward use_name use_form s)
       → side ≡ answer (onward usage (line "side=" (decimal 0 1)) s)
       → place ≡ answer (onward side (line "place=" (decimal 0 79)) s)
-      → mcc ≡ answer (onward place (codeForm two "mcc=" 1023) s)
-      → mnc ≡ answer (onward mcc (codeForm two "mnc=" 16383) s)
-      → keyName ≡ answer (onward mnc (literal (ascii "key=")) s)
-      → key ≡ keyAnswer (onward keyName keyForm s)
-      → readAt (recordForm two) s 0
+      → mcc ≡ answer (onward place (code_form two "mcc=" 1023) s)
+      → mnc ≡ answer (onward mcc (code_form two "mnc=" 16383) s)
+      → key_name ≡ answer (onward mnc (literal (ascii "key=")) s)
+      → key ≡ key_answer (onward key_name key_form s)
+      → read_at (record_form two) s 0
       ≡ pick key.good
       (found (record {
         number = number.value;
@@ -232,10 +232,10 @@ module _ (two : Bool) (s : List ℕ) {start number version algName algorithm use
         key = key.key;
       }) key.place)
       (wrong key.place)
-  unfolding linesForm
+  unfolding lines_form
   lines-read o n v an a un u si p c w kn k =
       opened-on two s
-      ∙ ap (λ (x : Reading). onward x (linesForm two) s) (sym o)
+      ∙ ap (λ (x : Reading). onward x (lines_form two) s) (sym o)
       ∙ on_then _ _ _ _ n
       ∙ on_then _ _ _ _ v
       ∙ on_then _ _ _ _ (a ∙ ap answer (sym (on_then _ _ _ _ an)))
@@ -244,5 +244,5 @@ module _ (two : Bool) (s : List ℕ) {start number version algName algorithm use
       ∙ on_then _ _ _ _ p
       ∙ on_then _ _ _ _ c
       ∙ on_then _ _ _ _ w
-      ∙ key-then _ _ _ _ (k ∙ ap keyAnswer (sym (on_then _ _ _ _ kn)))
+      ∙ key-then _ _ _ _ (k ∙ ap key_answer (sym (on_then _ _ _ _ kn)))
       ∙ ap (λ o. pick key.good o (wrong key.place)) (step-done _ s key.place)

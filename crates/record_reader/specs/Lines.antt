@@ -4,7 +4,7 @@ use Prim.Native.String.{String}
 use Rattle.laws.specs.Choice.{pick}
 use Rattle.algorithms.specs.Algorithm.{name_of}
 use Rattle.writing.specs.Text.{ascii}
-use Rattle.record_text.specs.Text.{useWord}
+use Rattle.record_text.specs.Text.{use_word}
 use Rattle.forms.specs.Form.{Form, done, literal, line, Outcome, found, wrong, ◌>>=◌}
 use Rattle.forms.specs.Decimals.{decimal}
 use Rattle.forms.specs.Words.{one_of}
@@ -12,34 +12,34 @@ use Rattle.forms.specs.Hexes.{bytes}
 use Rattle.record_reader.specs.declared.KeyReading.{KeyReading}
 
 -- SEND, RECV, BOTH
-unfoldable pub useForm : Form ℕ
-useForm = one_of 1 (useWord 1) (useWord 2) (useWord 3)
+unfoldable pub use_form : Form ℕ
+use_form = one_of 1 (use_word 1) (use_word 2) (use_word 3)
 
 -- TEA5, TEA6, TEA7
-unfoldable pub algorithmForm : Form ℕ
-algorithmForm = one_of 5 (name_of 5) (name_of 6) (name_of 7)
+unfoldable pub algorithm_form : Form ℕ
+algorithm_form = one_of 5 (name_of 5) (name_of 6) (name_of 7)
 
 -- the line of a network code, which only form 2 has
-abbrev pub codeForm : Bool → String → ℕ → Form ℕ
-codeForm two name high = pick two (line name (decimal 0 high)) (done 0)
+abbrev pub code_form : Bool → String → ℕ → Form ℕ
+code_form two name high = pick two (line name (decimal 0 high)) (done 0)
 
 -- a key, ended by LF
-unfoldable pub keyForm : Form (List ℕ)
-keyForm = do
+unfoldable pub key_form : Form (List ℕ)
+key_form = do
   key ← bytes 24
   _ ← literal (ascii "\n")
   done key
 
 -- a key and the place after it; or, once a byte is wrong, no key and the place of that byte
-abbrev pub noKey : List ℕ
-noKey = replicate 24 0
+abbrev pub no_key : List ℕ
+no_key = replicate 24 0
 
-abbrev pub keyTo : List ℕ → ℕ → KeyReading
-keyTo key p = record { good = true; key = key; place = p }
+abbrev pub key_to : List ℕ → ℕ → KeyReading
+key_to key p = record { good = true; key = key; place = p }
 
-abbrev pub noKeyAt : ℕ → KeyReading
-noKeyAt p = record { good = false; key = noKey; place = p }
+abbrev pub no_key_at : ℕ → KeyReading
+no_key_at p = record { good = false; key = no_key; place = p }
 
-abbrev pub keyAnswer : Outcome (List ℕ) → KeyReading
-keyAnswer (found key p) = keyTo key p
-keyAnswer (wrong p) = noKeyAt p
+abbrev pub key_answer : Outcome (List ℕ) → KeyReading
+key_answer (found key p) = key_to key p
+key_answer (wrong p) = no_key_at p

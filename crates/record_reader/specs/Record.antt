@@ -2,16 +2,16 @@
 -- crate `records`. Assumes nothing: these are definitions.
 use Rattle.std.specs.Prelude.{Bool, true, false, List, ℕ, eqb, get_or}
 use Rattle.refusals.specs.Numbers as numbers
-use Rattle.fields.specs.Fields.{noFields}
+use Rattle.fields.specs.Fields.{no_fields}
 use Rattle.fields.specs.declared.Fields.{Fields}
 use Rattle.record_reader.specs.declared.RecordRead.{RecordRead}
 use Rattle.writing.specs.Text.{ascii}
 use Rattle.reading.specs.declared.Reading.{Reading}
-use Rattle.reading.specs.Reading.{goodTo, onward, answer}
-use Rattle.lines.specs.Line.{line_of, columnOf}
-use Rattle.forms.specs.Form.{Form, done, literal, Outcome, found, wrong, readAt, line, ◌>>=◌}
+use Rattle.reading.specs.Reading.{good_to, onward, answer}
+use Rattle.lines.specs.Line.{line_of, column_of}
+use Rattle.forms.specs.Form.{Form, done, literal, Outcome, found, wrong, read_at, line, ◌>>=◌}
 use Rattle.forms.specs.Decimals.{decimal}
-use Rattle.record_reader.specs.Lines.{useForm, algorithmForm, codeForm, keyForm, noKey}
+use Rattle.record_reader.specs.Lines.{use_form, algorithm_form, code_form, key_form, no_key}
 
 -- what a record holds
 pub record Entry : Type 0 where
@@ -20,17 +20,17 @@ pub record Entry : Type 0 where
   pub key : List ℕ
 
 -- the lines that both forms have, and in form 2 those of the network. Form 1 gives 0 for both codes
-unfoldable pub linesForm : Bool → Form Entry
-linesForm two = do
+unfoldable pub lines_form : Bool → Form Entry
+lines_form two = do
   number ← line "number=" (decimal 1 32)
   version ← line "version=" (decimal 0 65535)
-  algorithm ← line "alg=" algorithmForm
-  usage ← line "use=" useForm
+  algorithm ← line "alg=" algorithm_form
+  usage ← line "use=" use_form
   side ← line "side=" (decimal 0 1)
   place ← line "place=" (decimal 0 79)
-  mcc ← codeForm two "mcc=" 1023
-  mnc ← codeForm two "mnc=" 16383
-  key ← line "key=" keyForm
+  mcc ← code_form two "mcc=" 1023
+  mnc ← code_form two "mnc=" 16383
+  key ← line "key=" key_form
   done (record {
     number = number;
     fields =
@@ -39,38 +39,38 @@ linesForm two = do
   })
 
 -- a record of form 2, whose first line says so, or of form 1
-unfoldable pub recordForm : Bool → Form Entry
-recordForm true = line "form=2\n" (linesForm true)
-recordForm false = linesForm false
+unfoldable pub record_form : Bool → Form Entry
+record_form true = line "form=2\n" (lines_form true)
+record_form false = lines_form false
 
 -- the first byte decides which: 102 is f
-unfoldable pub startsForm : List ℕ → Bool
-startsForm s = eqb (get_or s 0 0) 102
+unfoldable pub starts_form : List ℕ → Bool
+starts_form s = eqb (get_or s 0 0) 102
 
 -- what is read before the lines of either form
 unfoldable pub opened : Bool → List ℕ → Reading
-opened true s = answer (onward (goodTo 0 0) (literal (ascii "form=2\n")) s)
-opened false s = goodTo 0 0
+opened true s = answer (onward (good_to 0 0) (literal (ascii "form=2\n")) s)
+opened false s = good_to 0 0
 
-abbrev pub entryRead : Entry → ℕ → RecordRead
-entryRead e used = record { refusal = numbers.done; line = 0; column = 0; used = used; number = e.number; fields = e.fields; key = e.key }
+abbrev pub entry_read : Entry → ℕ → RecordRead
+entry_read e used = record { refusal = numbers.done; line = 0; column = 0; used = used; number = e.number; fields = e.fields; key = e.key }
 
-abbrev pub refusedAt : List ℕ → ℕ → RecordRead
-refusedAt s place =
+abbrev pub refused_at : List ℕ → ℕ → RecordRead
+refused_at s place =
     record {
-      refusal = numbers.recordTextBad;
+      refusal = numbers.record_text_bad;
       line = line_of s place;
-      column = columnOf s place;
+      column = column_of s place;
       used = 0;
       number = 0;
-      fields = noFields;
-      key = noKey;
+      fields = no_fields;
+      key = no_key;
     }
 
-abbrev pub readAnswer : List ℕ → Outcome Entry → RecordRead
-readAnswer s (found e used) = entryRead e used
-readAnswer s (wrong place) = refusedAt s place
+abbrev pub read_answer : List ℕ → Outcome Entry → RecordRead
+read_answer s (found e used) = entry_read e used
+read_answer s (wrong place) = refused_at s place
 
 -- what reading answers
-unfoldable pub recordRead : List ℕ → RecordRead
-recordRead s = readAnswer s (readAt (recordForm (startsForm s)) s 0)
+unfoldable pub record_read : List ℕ → RecordRead
+record_read s = read_answer s (read_at (record_form (starts_form s)) s 0)

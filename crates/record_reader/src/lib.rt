@@ -4,8 +4,8 @@ ghost use Rattle.laws.specs.Choice.{pick};
 ghost use Rattle.forms.specs.Form.{done, named};
 ghost use Rattle.forms.specs.Decimals.{decimal};
 ghost use Rattle.reading.specs.Reading.{onward, answer};
-ghost use Rattle.record_reader.specs.Lines.{noKeyAt, keyAnswer, useForm, algorithmForm, keyForm};
-ghost use Rattle.record_reader.specs.Record.{startsForm, opened, refusedAt, recordRead};
+ghost use Rattle.record_reader.specs.Lines.{no_key_at, key_answer, use_form, algorithm_form, key_form};
+ghost use Rattle.record_reader.specs.Record.{starts_form, opened, refused_at, record_read};
 
 use algorithms::name;
 use fields::Fields;
@@ -23,7 +23,7 @@ pub struct KeyReading {
 }
 
 fn no_key_at(place: usize) -> KeyReading
-    ensures { result ≡ noKeyAt place }
+    ensures { result ≡ no_key_at place }
 {
     KeyReading {
         good: false,
@@ -34,21 +34,21 @@ fn no_key_at(place: usize) -> KeyReading
 
 // SEND, RECV or BOTH, ended by LF.
 fn read_use(s: &[u8], before: Reading) -> Reading
-    ensures { result ≡ answer (onward before useForm s.now) }
+    ensures { result ≡ answer (onward before use_form s.now) }
 {
     read_one_of(s, before, 1, use_word(1), use_word(2), use_word(3))
 }
 
 // TEA5, TEA6 or TEA7, ended by LF.
 fn read_algorithm(s: &[u8], before: Reading) -> Reading
-    ensures { result ≡ answer (onward before algorithmForm s.now) }
+    ensures { result ≡ answer (onward before algorithm_form s.now) }
 {
     read_one_of(s, before, 5, name(5), name(6), name(7))
 }
 
 // A key, ended by LF.
 fn read_key(s: &[u8], before: Reading) -> KeyReading
-    ensures { result ≡ keyAnswer (onward before keyForm s.now) }
+    ensures { result ≡ key_answer (onward before key_form s.now) }
 {
     let mut key = [0u8; 24];
     let mut last = before;
@@ -86,7 +86,7 @@ pub struct RecordRead {
 // Refusal 15, for a text that is wrong at a place.
 fn refused_at(text: &[u8], place: usize) -> RecordRead
     requires { place ≤ length text.now }
-    ensures { result ≡ refusedAt text.now place }
+    ensures { result ≡ refused_at text.now place }
 {
     RecordRead {
         refusal: refusals::RECORD_TEXT,
@@ -109,7 +109,7 @@ fn refused_at(text: &[u8], place: usize) -> RecordRead
 
 // Is the text one of form 2? Its first byte decides.
 fn starts_form(text: &[u8]) -> bool
-    ensures { result ≡ startsForm text.now }
+    ensures { result ≡ starts_form text.now }
 {
     if text.len() == 0 {
         return false;
@@ -139,7 +139,7 @@ fn read_code<'a>(text: &'a [u8], before: Reading, two: bool, name: &'a [u8], hig
 
 // One record from the front of a text. What follows it is not judged.
 pub fn read_record(text: &[u8]) -> RecordRead
-    ensures { result ≡ recordRead text.now }
+    ensures { result ≡ record_read text.now }
 {
     let two = starts_form(text);
     let number = read_line(text, read_form(text, two), b"number=", 1, 32);

@@ -4,44 +4,44 @@ use Rattle.std.specs.Prelude.{List, [], ◌++◌, ◌≡◌, Bool, true, false, 
 use Prim.Native.String.{String}
 use Rattle.laws.specs.Choice.{pick}
 use Rattle.algorithms.specs.Algorithm.{name_of}
-use Rattle.fields.specs.Fields.{isSlotNumber, isAlgorithm, isUse, isSide, isPlace}
+use Rattle.fields.specs.Fields.{is_slot_number, is_algorithm, is_use, is_side, is_place}
 use Rattle.fields.specs.declared.Fields.{Fields}
-use Rattle.writing.specs.Text.{ascii, digits, hexText, lineText}
+use Rattle.writing.specs.Text.{ascii, digits, hex_text, line_text}
 
 -- 1 send, 2 receive, 3 both
-unfoldable pub useWord : ℕ → List ℕ
-useWord u = pick (eqb u 1) (ascii "SEND") (pick (eqb u 2) (ascii "RECV") (ascii "BOTH"))
+unfoldable pub use_word : ℕ → List ℕ
+use_word u = pick (eqb u 1) (ascii "SEND") (pick (eqb u 2) (ascii "RECV") (ascii "BOTH"))
 
 -- the line of a network code, which only form 2 has
-abbrev pub codeText : Bool → String → ℕ → List ℕ
-codeText two name n = pick two (lineText name (digits n)) []
+abbrev pub code_text : Bool → String → ℕ → List ℕ
+code_text two name n = pick two (line_text name (digits n)) []
 
 -- the lines from the side on
-abbrev pub lastLines : Bool → Fields → List ℕ → List ℕ
-lastLines two f key =
-    lineText "side=" (digits f.side)
-    ++ (lineText "place=" (digits f.place)
-    ++ (codeText two "mcc=" f.mcc
-    ++ (codeText two "mnc=" f.mnc
-    ++ lineText "key=" (hexText key))))
+abbrev pub last_lines : Bool → Fields → List ℕ → List ℕ
+last_lines two f key =
+    line_text "side=" (digits f.side)
+    ++ (line_text "place=" (digits f.place)
+    ++ (code_text two "mcc=" f.mcc
+    ++ (code_text two "mnc=" f.mnc
+    ++ line_text "key=" (hex_text key))))
 
 -- the lines that both forms have, and in form 2 those of the network
-unfoldable pub linesText : Bool → ℕ → Fields → List ℕ → List ℕ
-linesText two number f key =
-    lineText "number=" (digits number)
-    ++ (lineText "version=" (digits f.version)
-    ++ (lineText "alg=" (name_of f.algorithm)
-    ++ (lineText "use=" (useWord f.usage)
-    ++ lastLines two f key)))
+unfoldable pub lines_text : Bool → ℕ → Fields → List ℕ → List ℕ
+lines_text two number f key =
+    line_text "number=" (digits number)
+    ++ (line_text "version=" (digits f.version)
+    ++ (line_text "alg=" (name_of f.algorithm)
+    ++ (line_text "use=" (use_word f.usage)
+    ++ last_lines two f key)))
 
 -- a record of form 2, whose first line says so, or of form 1
-unfoldable pub formText : Bool → ℕ → Fields → List ℕ → List ℕ
-formText true number f key = ascii "form=2\n" ++ linesText true number f key
-formText false number f key = linesText false number f key
+unfoldable pub form_text : Bool → ℕ → Fields → List ℕ → List ℕ
+form_text true number f key = ascii "form=2\n" ++ lines_text true number f key
+form_text false number f key = lines_text false number f key
 
 -- as it is written: form 2
-abbrev pub recordText : ℕ → Fields → List ℕ → List ℕ
-recordText number f key = formText true number f key
+abbrev pub record_text : ℕ → Fields → List ℕ → List ℕ
+record_text number f key = form_text true number f key
 
 -- a network code of form 2 is in its range; form 1 has none
 abbrev pub InCode : Bool → ℕ → ℕ → Type 0
@@ -50,12 +50,12 @@ InCode false high n = n ≡ 0
 
 -- within the slot ranges; a version is 16 bits, a key 24 bytes
 pub record Good (two : Bool) (number : ℕ) (f : Fields) (key : List ℕ) : Type 0 where
-  pub slot : isSlotNumber number ≡ true
+  pub slot : is_slot_number number ≡ true
   pub version : f.version ≤ 65535
-  pub algorithm : isAlgorithm f.algorithm ≡ true
-  pub usage : isUse f.usage ≡ true
-  pub side : isSide f.side ≡ true
-  pub place : isPlace f.place ≡ true
+  pub algorithm : is_algorithm f.algorithm ≡ true
+  pub usage : is_use f.usage ≡ true
+  pub side : is_side f.side ≡ true
+  pub place : is_place f.place ≡ true
   pub mcc : InCode two 1023 f.mcc
   pub mnc : InCode two 16383 f.mnc
   pub size : length key ≡ 24

@@ -1,10 +1,10 @@
 // The words of the uses. The algorithms' names are their own.
 ghost use Rattle.std.specs.Prelude.{◌≡◌};
-ghost use Rattle.record_text.specs.Text.{useWord};
+ghost use Rattle.record_text.specs.Text.{use_word};
 
 // 1 send, 2 receive, 3 both.
 pub fn use_word(usage: u64) -> [u8; 4]
-    ensures { result ≡ useWord usage }
+    ensures { result ≡ use_word usage }
 {
     if usage == 1 {
         return *b"SEND";

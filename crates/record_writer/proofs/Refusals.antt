@@ -11,59 +11,59 @@ use lib.Seq.{sets-eq}
 use borrow.Author.Tests.{le-ltb, le-leb, ltb-false, leb-true, eqb-true, eq-eqb, ne_eqb, not-false}
 use Rattle.laws.specs.Choice.{pick}
 use Rattle.laws.proofs.Cases.{and_left, and_right, unpicked, unpicked-own}
-use Rattle.refusals.specs.Numbers.{done, slotNumberBad, algorithmUnknown, codeUnknown, sideOrPlaceBad, networkBad, recordTooLong}
-use Rattle.fields.specs.Fields.{isSlotNumber, isAlgorithm, isUse, isSide, isPlace, isMcc, isMnc, rightsRefusal, storedOf, asked_of}
+use Rattle.refusals.specs.Numbers.{done, slot_number_bad, algorithm_unknown, code_unknown, side_or_place_bad, network_bad, record_too_long}
+use Rattle.fields.specs.Fields.{is_slot_number, is_algorithm, is_use, is_side, is_place, is_mcc, is_mnc, rights_refusal, stored_of, asked_of}
 use Rattle.fields.specs.declared.Asked.{Asked}
 use Rattle.fields.specs.declared.Fields.{Fields}
-use Rattle.record_text.specs.Text.{recordText, Good}
-use Rattle.writing.specs.Writing.{Room, Put, atFront}
-use Rattle.record_writer.specs.Written.{writeRefusal, recordWritten, bufferWritten}
+use Rattle.record_text.specs.Text.{record_text, Good}
+use Rattle.writing.specs.Writing.{Room, Put, at_front}
+use Rattle.record_writer.specs.Written.{write_refusal, record_written, buffer_written}
 
 module _ (number : ℕ) (asked : Asked) (key b : List ℕ) where
   pub record Accepted : Type 0 where
-    pub slot : isSlotNumber number ≡ true
-    pub algorithm : isAlgorithm asked.algorithm ≡ true
-    pub rights : rightsRefusal asked ≡ done
-    pub room : length (recordText number (storedOf asked) key) ≤ length b
+    pub slot : is_slot_number number ≡ true
+    pub algorithm : is_algorithm asked.algorithm ≡ true
+    pub rights : rights_refusal asked ≡ done
+    pub room : length (record_text number (stored_of asked) key) ≤ length b
 
-  pub accepted : writeRefusal number asked key (length b) ≡ done → Accepted
-  unfolding writeRefusal
+  pub accepted : write_refusal number asked key (length b) ≡ done → Accepted
+  unfolding write_refusal
   accepted e =
-      let s = unpicked (not (isSlotNumber number)) slotNumberBad _ (lit< tt) e in
-      let a = unpicked (not (isAlgorithm asked.algorithm)) algorithmUnknown _ (lit< tt) s.1 in
-      let r = unpicked-own (rightsRefusal asked) _ a.1 in
-      let l = unpicked (ltb (length b) (length (recordText number (storedOf asked) key))) recordTooLong _ (lit< tt) r.1 in
+      let s = unpicked (not (is_slot_number number)) slot_number_bad _ (lit< tt) e in
+      let a = unpicked (not (is_algorithm asked.algorithm)) algorithm_unknown _ (lit< tt) s.1 in
+      let r = unpicked-own (rights_refusal asked) _ a.1 in
+      let l = unpicked (ltb (length b) (length (record_text number (stored_of asked) key))) record_too_long _ (lit< tt) r.1 in
       record {
-        slot = not-false (isSlotNumber number) s.0;
-        algorithm = not-false (isAlgorithm asked.algorithm) a.0;
-        rights = eqb-true (rightsRefusal asked) done r.0;
+        slot = not-false (is_slot_number number) s.0;
+        algorithm = not-false (is_algorithm asked.algorithm) a.0;
+        rights = eqb-true (rights_refusal asked) done r.0;
         room = ltb-false (length b) _ l.0;
       }
 
   -- the answers, where r is the refusal
 
-  module _ {r : ℕ} (e : r ≡ writeRefusal number asked key (length b)) where
-    pub refused : (r ≡ done → ⊥) → (record { refusal = r; length = 0 } ≡ recordWritten number asked key b) × (b ≡ bufferWritten number asked key b)
-    unfolding recordWritten bufferWritten
+  module _ {r : ℕ} (e : r ≡ write_refusal number asked key (length b)) where
+    pub refused : (r ≡ done → ⊥) → (record { refusal = r; length = 0 } ≡ record_written number asked key b) × (b ≡ buffer_written number asked key b)
+    unfolding record_written buffer_written
     refused h = rw (← e, ne_eqb r done h) (refl, refl)
 
-    pub room : r ≡ done → Room b 0 (recordText number (storedOf asked) key)
+    pub room : r ≡ done → Room b 0 (record_text number (stored_of asked) key)
     room z = record { fits = omega (arith, (accepted (sym e ∙ z)).room) }
 
-    pub written : r ≡ done → {b' : List ℕ} {n : ℕ} → Put b 0 (recordText number (storedOf asked) key) b' n
-        → (record { refusal = r; length = n } ≡ recordWritten number asked key b) × (b' ≡ bufferWritten number asked key b)
-    unfolding recordWritten bufferWritten
+    pub written : r ≡ done → {b' : List ℕ} {n : ℕ} → Put b 0 (record_text number (stored_of asked) key) b' n
+        → (record { refusal = r; length = n } ≡ record_written number asked key b) × (b' ≡ buffer_written number asked key b)
+    unfolding record_written buffer_written
     written z {b'} {n} p =
-        let t = recordText number (storedOf asked) key in
+        let t = record_text number (stored_of asked) key in
         rw (← e, eq-eqb r done z) (
           λ i. record { refusal = r; length = (p.ends ∙ zero-add (length t)) i },
           p.holds ∙ sets-eq t b 0 (room z).fits ∙ ap (λ (k : ℕ). t ++ drop k b) (zero-add (length t)),
         )
 
 -- a good record is refused only for want of room
-pub nothing-refused : (number : ℕ) (f : Fields) (key b : List ℕ) → Good true number f key → length (recordText number f key) ≤ length b
-    → writeRefusal number (asked_of f) key (length b) ≡ done
-unfolding writeRefusal
+pub nothing-refused : (number : ℕ) (f : Fields) (key b : List ℕ) → Good true number f key → length (record_text number f key) ≤ length b
+    → write_refusal number (asked_of f) key (length b) ≡ done
+unfolding write_refusal
 nothing-refused number f key b g h =
     rw (
       g.slot,
@@ -73,44 +73,44 @@ nothing-refused number f key b g h =
       g.place,
       le-leb f.mcc 1023 g.mcc,
       le-leb f.mnc 16383 g.mnc,
-      le-ltb (length b) (length (recordText number f key)) h,
+      le-ltb (length b) (length (record_text number f key)) h,
     )
 
 -- and then its text is put
-pub put_whole : (number : ℕ) (asked : Asked) (key b : List ℕ) → writeRefusal number asked key (length b) ≡ done
-    → (recordWritten number asked key b ≡ record { refusal = done; length = length (recordText number (storedOf asked) key) })
-    × (bufferWritten number asked key b ≡ atFront (recordText number (storedOf asked) key) b)
-unfolding recordWritten bufferWritten
+pub put_whole : (number : ℕ) (asked : Asked) (key b : List ℕ) → write_refusal number asked key (length b) ≡ done
+    → (record_written number asked key b ≡ record { refusal = done; length = length (record_text number (stored_of asked) key) })
+    × (buffer_written number asked key b ≡ at_front (record_text number (stored_of asked) key) b)
+unfolding record_written buffer_written
 put_whole number asked key b e = rw e (refl, refl)
 
 -- the fields that have no refusal
 pub record Right (a : Asked) : Type 0 where
-  pub usage : isUse a.usage ≡ true
-  pub side : isSide a.side ≡ true
-  pub place : isPlace a.place ≡ true
+  pub usage : is_use a.usage ≡ true
+  pub side : is_side a.side ≡ true
+  pub place : is_place a.place ≡ true
   pub mcc : a.mcc ≤ 1023
   pub mnc : a.mnc ≤ 16383
 
-pub right : (a : Asked) → rightsRefusal a ≡ done → Right a
+pub right : (a : Asked) → rights_refusal a ≡ done → Right a
 right a e =
-    let u = unpicked (not (isUse a.usage)) codeUnknown _ (lit< tt) e in
-    let p = unpicked (not (isSide a.side && isPlace a.place)) sideOrPlaceBad _ (lit< tt) u.1 in
-    let n = unpicked (not (isMcc a.mcc && isMnc a.mnc)) networkBad _ (lit< tt) p.1 in
+    let u = unpicked (not (is_use a.usage)) code_unknown _ (lit< tt) e in
+    let p = unpicked (not (is_side a.side && is_place a.place)) side_or_place_bad _ (lit< tt) u.1 in
+    let n = unpicked (not (is_mcc a.mcc && is_mnc a.mnc)) network_bad _ (lit< tt) p.1 in
     let both = not-false _ p.0 in
     let codes = not-false _ n.0 in
     record {
       usage = not-false _ u.0;
-      side = and_left (isSide a.side) _ both;
-      place = and_right (isSide a.side) _ both;
-      mcc = leb-true a.mcc 1023 (and_left (isMcc a.mcc) _ codes);
-      mnc = leb-true a.mnc 16383 (and_right (isMcc a.mcc) _ codes);
+      side = and_left (is_side a.side) _ both;
+      place = and_right (is_side a.side) _ both;
+      mcc = leb-true a.mcc 1023 (and_left (is_mcc a.mcc) _ codes);
+      mnc = leb-true a.mnc 16383 (and_right (is_mcc a.mcc) _ codes);
     }
 
 -- what comes after the rights counts only where they have no refusal
 pub after-rights : (rights room x y : ℕ) → (rights ≡ done → x ≡ y)
-    → pick (not (eqb rights done)) rights (pick (ltb room x) recordTooLong done) ≡ pick (not (eqb rights done)) rights (pick (ltb room y) recordTooLong done)
+    → pick (not (eqb rights done)) rights (pick (ltb room x) record_too_long done) ≡ pick (not (eqb rights done)) rights (pick (ltb room y) record_too_long done)
 after-rights rights room x y h = go (eqb rights done) refl
   where
-    go : (t : Bool) → eqb rights done ≡ t → pick (not t) rights (pick (ltb room x) recordTooLong done) ≡ pick (not t) rights (pick (ltb room y) recordTooLong done)
-    go true e = ap (λ (n : ℕ). pick (ltb room n) recordTooLong done) (h (eqb-true rights done e))
+    go : (t : Bool) → eqb rights done ≡ t → pick (not t) rights (pick (ltb room x) record_too_long done) ≡ pick (not t) rights (pick (ltb room y) record_too_long done)
+    go true e = ap (λ (n : ℕ). pick (ltb room n) record_too_long done) (h (eqb-true rights done e))
     go false e = refl

@@ -3,33 +3,33 @@
 use Rattle.std.specs.Prelude.{List, not, ℕ, eqb, ltb, length}
 use Rattle.laws.specs.Choice.{pick}
 use Rattle.refusals.specs.Numbers as numbers
-use Rattle.fields.specs.Fields.{isSlotNumber, isAlgorithm, rightsRefusal, storedOf}
+use Rattle.fields.specs.Fields.{is_slot_number, is_algorithm, rights_refusal, stored_of}
 use Rattle.fields.specs.declared.Asked.{Asked}
 use Rattle.record_writer.specs.declared.RecordWritten.{RecordWritten}
-use Rattle.record_text.specs.Text.{recordText}
-use Rattle.writing.specs.Writing.{atFront}
+use Rattle.record_text.specs.Text.{record_text}
+use Rattle.writing.specs.Writing.{at_front}
 
 -- the order of writing: 7, 1, 10, 11, 20, 17
-unfoldable pub writeRefusal : ℕ → Asked → List ℕ → ℕ → ℕ
-writeRefusal number asked key room =
-    numbers.refuse (not (isSlotNumber number)) numbers.slotNumberBad
-    (numbers.refuse (not (isAlgorithm asked.algorithm)) numbers.algorithmUnknown
-    (numbers.refuse (not (eqb (rightsRefusal asked) numbers.done)) (rightsRefusal asked)
-    (numbers.refuse (ltb room (length (recordText number (storedOf asked) key))) numbers.recordTooLong
+unfoldable pub write_refusal : ℕ → Asked → List ℕ → ℕ → ℕ
+write_refusal number asked key room =
+    numbers.refuse (not (is_slot_number number)) numbers.slot_number_bad
+    (numbers.refuse (not (is_algorithm asked.algorithm)) numbers.algorithm_unknown
+    (numbers.refuse (not (eqb (rights_refusal asked) numbers.done)) (rights_refusal asked)
+    (numbers.refuse (ltb room (length (record_text number (stored_of asked) key))) numbers.record_too_long
     numbers.done)))
 
 -- what writing answers
-unfoldable pub recordWritten : ℕ → Asked → List ℕ → List ℕ → RecordWritten
-recordWritten number asked key buffer =
-    let refusal = writeRefusal number asked key (length buffer) in
+unfoldable pub record_written : ℕ → Asked → List ℕ → List ℕ → RecordWritten
+record_written number asked key buffer =
+    let refusal = write_refusal number asked key (length buffer) in
     record {
       refusal = refusal;
-      length = pick (eqb refusal numbers.done) (length (recordText number (storedOf asked) key)) 0;
+      length = pick (eqb refusal numbers.done) (length (record_text number (stored_of asked) key)) 0;
     }
 
 -- what the buffer holds after writing
-unfoldable pub bufferWritten : ℕ → Asked → List ℕ → List ℕ → List ℕ
-bufferWritten number asked key buffer =
-    pick (eqb (writeRefusal number asked key (length buffer)) numbers.done)
-    (atFront (recordText number (storedOf asked) key) buffer)
+unfoldable pub buffer_written : ℕ → Asked → List ℕ → List ℕ → List ℕ
+buffer_written number asked key buffer =
+    pick (eqb (write_refusal number asked key (length buffer)) numbers.done)
+    (at_front (record_text number (stored_of asked) key) buffer)
     buffer

@@ -1,10 +1,10 @@
 // Key records written as text (document 01, "Key records"), at the front of a buffer.
 ghost use Rattle.std.specs.Prelude.{true, List, ◌≡◌, ℕ, ◌+◌, length};
-ghost use Rattle.fields.specs.Fields.{storedOf};
-ghost use Rattle.writing.specs.Text.{digits, hexText, lineText};
-ghost use Rattle.record_text.specs.Text.{lastLines, recordText};
+ghost use Rattle.fields.specs.Fields.{stored_of};
+ghost use Rattle.writing.specs.Text.{digits, hex_text, line_text};
+ghost use Rattle.record_text.specs.Text.{last_lines, record_text};
 ghost use Rattle.writing.specs.Writing.{Room, Put};
-ghost use Rattle.record_writer.specs.Written.{writeRefusal, recordWritten, bufferWritten};
+ghost use Rattle.record_writer.specs.Written.{write_refusal, record_written, buffer_written};
 
 use fields::{Asked, is_algorithm, is_slot_number, rights_refusal};
 use record_text::use_word;
@@ -13,8 +13,8 @@ use writing::{digit_count, put_bytes, put_hex, put_line, put_word_line};
 
 // The line of a key.
 fn put_key(buffer: &mut [u8], at: usize, key: [u8; 24]) -> usize
-    requires { Room buffer.old at (lineText "key=" (hexText key)) }
-    ensures { Put buffer.old at (lineText "key=" (hexText key)) buffer.new result }
+    requires { Room buffer.old at (line_text "key=" (hex_text key)) }
+    ensures { Put buffer.old at (line_text "key=" (hex_text key)) buffer.new result }
 {
     let value = put_bytes(buffer, at, b"key=");
     let end = put_hex(buffer, value, &key);
@@ -39,7 +39,7 @@ fn text_length(number: u64, version: u64, place: u64, mcc: u64, mnc: u64) -> usi
 
 // Refusals 7, 1, 10, 11, 20, 17, in this order. The key takes no part.
 fn write_refusal(number: u64, asked: Asked, room: usize) -> u8
-    ensures { (key : List ℕ) → length key ≡ 24 → result ≡ writeRefusal number asked key room }
+    ensures { (key : List ℕ) → length key ≡ 24 → result ≡ write_refusal number asked key room }
 {
     let rights = rights_refusal(asked);
     let version = asked.version as u64;
@@ -61,8 +61,8 @@ fn write_refusal(number: u64, asked: Asked, room: usize) -> u8
 
 // The lines from the side on.
 fn put_last(buffer: &mut [u8], at: usize, asked: Asked, key: [u8; 24]) -> usize
-    requires { Room buffer.old at (lastLines true (storedOf asked) key) }
-    ensures { Put buffer.old at (lastLines true (storedOf asked) key) buffer.new result }
+    requires { Room buffer.old at (last_lines true (stored_of asked) key) }
+    ensures { Put buffer.old at (last_lines true (stored_of asked) key) buffer.new result }
 {
     let place = put_line(buffer, at, b"side=", asked.side);
     let mcc = put_line(buffer, place, b"place=", asked.place);
@@ -73,8 +73,8 @@ fn put_last(buffer: &mut [u8], at: usize, asked: Asked, key: [u8; 24]) -> usize
 
 // The ten lines, for a buffer that has room for them.
 fn put_record(buffer: &mut [u8], number: u64, asked: Asked, key: [u8; 24]) -> usize
-    requires { Room buffer.old 0 (recordText number (storedOf asked) key) }
-    ensures { Put buffer.old 0 (recordText number (storedOf asked) key) buffer.new result }
+    requires { Room buffer.old 0 (record_text number (stored_of asked) key) }
+    ensures { Put buffer.old 0 (record_text number (stored_of asked) key) buffer.new result }
 {
     let first = put_bytes(buffer, 0, b"form=2\n");
     let version = put_line(buffer, first, b"number=", number);
@@ -91,8 +91,8 @@ fn put_record(buffer: &mut [u8], number: u64, asked: Asked, key: [u8; 24]) -> us
 
 // The text of a record, at the front of the buffer. The bytes after it stay.
 pub fn write_record(number: u64, asked: Asked, key: [u8; 24], buffer: &mut [u8]) -> RecordWritten
-    ensures { (result ≡ recordWritten number asked key buffer.old)
-        × (buffer.new ≡ bufferWritten number asked key buffer.old) }
+    ensures { (result ≡ record_written number asked key buffer.old)
+        × (buffer.new ≡ buffer_written number asked key buffer.old) }
 {
     let refusal = write_refusal(number, asked, buffer.len());
     if refusal != refusals::DONE {

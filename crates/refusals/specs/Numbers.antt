@@ -7,100 +7,100 @@ abbrev pub done : ℕ
 done = 0
 
 -- algorithm not 5, 6, 7
-abbrev pub algorithmUnknown : ℕ
-algorithmUnknown = 1
+abbrev pub algorithm_unknown : ℕ
+algorithm_unknown = 1
 
 -- bench key not 24 bytes
-abbrev pub benchKeyNot24 : ℕ
-benchKeyNot24 = 2
+abbrev pub bench_key_not24 : ℕ
+bench_key_not24 = 2
 
 -- IV not 10 bytes
-abbrev pub ivNot10 : ℕ
-ivNot10 = 3
+abbrev pub iv_not10 : ℕ
+iv_not10 = 3
 
 -- length 0, or skip + length above 8,288
-abbrev pub lengthBad : ℕ
-lengthBad = 4
+abbrev pub length_bad : ℕ
+length_bad = 4
 
 -- buffer above 8,192 bytes
-abbrev pub bufferLarge : ℕ
-bufferLarge = 5
+abbrev pub buffer_large : ℕ
+buffer_large = 5
 
 -- start + length above 8 times the buffer's bytes
-abbrev pub spanOutside : ℕ
-spanOutside = 6
+abbrev pub span_outside : ℕ
+span_outside = 6
 
 -- slot number not 1..32
-abbrev pub slotNumberBad : ℕ
-slotNumberBad = 7
+abbrev pub slot_number_bad : ℕ
+slot_number_bad = 7
 
 -- slot empty
-abbrev pub slotEmpty : ℕ
-slotEmpty = 8
+abbrev pub slot_empty : ℕ
+slot_empty = 8
 
 -- target slot filled
-abbrev pub targetFilled : ℕ
-targetFilled = 9
+abbrev pub target_filled : ℕ
+target_filled = 9
 
 -- use or direction code unknown
-abbrev pub codeUnknown : ℕ
-codeUnknown = 10
+abbrev pub code_unknown : ℕ
+code_unknown = 10
 
 -- side above 1 or place above 79
-abbrev pub sideOrPlaceBad : ℕ
-sideOrPlaceBad = 11
+abbrev pub side_or_place_bad : ℕ
+side_or_place_bad = 11
 
 -- use doesn't include the direction
-abbrev pub directionNotInUse : ℕ
-directionNotInUse = 12
+abbrev pub direction_not_in_use : ℕ
+direction_not_in_use = 12
 
 -- IV side bit wrong
-abbrev pub ivSideWrong : ℕ
-ivSideWrong = 13
+abbrev pub iv_side_wrong : ℕ
+iv_side_wrong = 13
 
 -- asked use not within the present use
-abbrev pub useNotWithin : ℕ
-useNotWithin = 14
+abbrev pub use_not_within : ℕ
+use_not_within = 14
 
 -- record text bad; line and column given
-abbrev pub recordTextBad : ℕ
-recordTextBad = 15
+abbrev pub record_text_bad : ℕ
+record_text_bad = 15
 
 -- table not 32 records, or a bad slot in it
-abbrev pub tableBad : ℕ
-tableBad = 16
+abbrev pub table_bad : ℕ
+table_bad = 16
 
 -- record text longer than the buffer
-abbrev pub recordTooLong : ℕ
-recordTooLong = 17
+abbrev pub record_too_long : ℕ
+record_too_long = 17
 
 -- PDU kind, state or flag unknown, or PDU above 8,288 bits
-abbrev pub pduCodeUnknown : ℕ
-pduCodeUnknown = 18
+abbrev pub pdu_code_unknown : ℕ
+pdu_code_unknown = 18
 
 -- PDU parts don't fit
-abbrev pub pduPartsDontFit : ℕ
-pduPartsDontFit = 19
+abbrev pub pdu_parts_dont_fit : ℕ
+pdu_parts_dont_fit = 19
 
 -- mobile country code above 1,023 or mobile network code above 16,383
-abbrev pub networkBad : ℕ
-networkBad = 20
+abbrev pub network_bad : ℕ
+network_bad = 20
 
 -- algorithm out of service (document 02, [9])
-abbrev pub algorithmOutOfService : ℕ
-algorithmOutOfService = 21
+abbrev pub algorithm_out_of_service : ℕ
+algorithm_out_of_service = 21
 
 -- conversion check (document 02, [11]): a text of records does not read, or repeats a number
-abbrev pub conversionTextBad : ℕ
-conversionTextBad = 22
+abbrev pub conversion_text_bad : ℕ
+conversion_text_bad = 22
 
 -- conversion check: above 32 pairs, a number in them that is not there or is repeated, or an after record without a pair
-abbrev pub pairListBad : ℕ
-pairListBad = 23
+abbrev pub pair_list_bad : ℕ
+pair_list_bad = 23
 
 -- conversion check: a pair that widens its use, or differs in another field or the key
-abbrev pub pairDiffers : ℕ
-pairDiffers = 24
+abbrev pub pair_differs : ℕ
+pair_differs = 24
 
 -- refused with the number where the test holds, else what comes later in the order
 abbrev pub refuse : Bool → ℕ → ℕ → ℕ

@@ -7,7 +7,7 @@ use native.Mathlib.Omega.{arith}
 use Rattle.laws.specs.Bits.{bit_at}
 use Rattle.laws.proofs.Bits.{bytes-are-bits}
 use Rattle.laws.proofs.Cases.{lt-or-le, eq-or-ne}
-use Rattle.span.specs.Span.{streamBit}
+use Rattle.span.specs.Span.{stream_bit}
 use Rattle.tea.specs.declared.mode.Mode.{Mode}
 use Rattle.tea.specs.Mode.{mode_of}
 use Rattle.tea.specs.Keystream.{block_of}
@@ -31,8 +31,8 @@ same_block : {a b : List ℕ} → Block a → Block b → ((i : ℕ) → i < 256
 same_block {a} {b} p q e = bytes-are-bits a (bit_at b) 32 p.long p.bytes e ∙ sym (bytes-are-bits b (bit_at b) 32 q.long q.bytes (λ j h. refl))
 
 -- a bit of a whole block
-bit-of-block : (b : ℕ → List ℕ) (r i : ℕ) → i < 256 → streamBit b (256 * r + i) ≡ bit_at (b r) i
-unfolding streamBit
+bit-of-block : (b : ℕ → List ℕ) (r i : ℕ) → i < 256 → stream_bit b (256 * r + i) ≡ bit_at (b r) i
+unfolding stream_bit
 bit-of-block b r i h =
     let p : (256 * r + i) / 256 ≡ r = omega arith in
     let q : (256 * r + i) % 256 ≡ i = omega arith in

@@ -13,10 +13,10 @@ use Rattle.laws.specs.Lists.{tabulate}
 use Rattle.laws.proofs.Cases.{pick-cases}
 use Rattle.laws.proofs.Lists.{get_d_tabulate}
 use Rattle.laws.proofs.Tests.{all, holds}
-use Rattle.algorithms.specs.Combining.{fTea5, fTea6, fTea7}
+use Rattle.algorithms.specs.Combining.{f_tea5, f_tea6, f_tea7}
 use Rattle.algorithms.specs.Algorithm.{combining}
-use Rattle.tea.specs.Mixing.{mixedValue}
-use Rattle.tea.specs.Mode.{combined, first_of, second_of, modeKey, modeValue, modeBy, mode_of}
+use Rattle.tea.specs.Mixing.{mixed_value}
+use Rattle.tea.specs.Mode.{combined, first_of, second_of, mode_key, mode_value, mode_by, mode_of}
 use Rattle.algorithms.proofs.Rules.{RowRule, NoValueTwice, tea5-row-rule, tea6-row-rule, tea5-no-value-twice, tea6-no-value-twice, tea7-no-value-twice}
 use Rattle.repeats.specs.Repeats.{Bytes, InitialValue}
 use Rattle.repeats.proofs.MixedValues.{mixed-apart, length-mixed, mixed-small}
@@ -34,8 +34,8 @@ module _ (f : List ℕ) (rule : RowRule f) (ck : List ℕ) (small-key : Bytes ck
       rule.low r c d hr hc hd (ap (λ (i : ℕ). get_or f i 0 % 16) (sym p) ∙ e ∙ ap (λ (i : ℕ). get_or f i 0 % 16) q)
 
   value-apart : (v w : List ℕ) → length v ≡ 24 → length w ≡ 24 → ((k : ℕ) → k < 24 → get_or v k 0 < 256) → ((k : ℕ) → k < 24 → get_or w k 0 < 256)
-      → modeValue f ck v ≡ modeValue f ck w → v ≡ w
-  unfolding modeValue
+      → mode_value f ck v ≡ mode_value f ck w → v ≡ w
+  unfolding mode_value
   value-apart v w lv lw sv sw e =
       ext_get_or 0 v w (lv ∙ sym lw)
       (λ k l.
@@ -50,18 +50,18 @@ module _ (f : List ℕ) (rule : RowRule f) (ck : List ℕ) (small-key : Bytes ck
       let low : get_or v k 0 % 16 ≡ get_or w k 0 % 16 = half-apart (get_or ck k 0 % 16) _ _ (omega arith) (omega arith) (omega arith) both.1 in
       omega arith)
 
-  pub mode-apart : (x y : List ℕ) → InitialValue x → InitialValue y → modeValue f ck (mixedValue x) ≡ modeValue f ck (mixedValue y) → x ≡ y
+  pub mode-apart : (x y : List ℕ) → InitialValue x → InitialValue y → mode_value f ck (mixed_value x) ≡ mode_value f ck (mixed_value y) → x ≡ y
   mode-apart x y p q e =
       mixed-apart x y p.long q.long
-      (value-apart (mixedValue x) (mixedValue y) (length-mixed x) (length-mixed y) (mixed-small x p.long p.bytes) (mixed-small y q.long q.bytes) e)
+      (value-apart (mixed_value x) (mixed_value y) (length-mixed x) (length-mixed y) (mixed-small x p.long p.bytes) (mixed-small y q.long q.bytes) e)
 
 pub tea5-values-apart : (ck x y : List ℕ) → Bytes ck → InitialValue x → InitialValue y → (mode_of 5 ck x).value ≡ (mode_of 5 ck y).value → x ≡ y
-unfolding mode_of modeBy combining
-tea5-values-apart ck x y k = mode-apart fTea5 tea5-row-rule ck k x y
+unfolding mode_of mode_by combining
+tea5-values-apart ck x y k = mode-apart f_tea5 tea5-row-rule ck k x y
 
 pub tea6-values-apart : (ck x y : List ℕ) → Bytes ck → InitialValue x → InitialValue y → (mode_of 6 ck x).value ≡ (mode_of 6 ck y).value → x ≡ y
-unfolding mode_of modeBy combining
-tea6-values-apart ck x y k = mode-apart fTea6 tea6-row-rule ck k x y
+unfolding mode_of mode_by combining
+tea6-values-apart ck x y k = mode-apart f_tea6 tea6-row-rule ck k x y
 
 -- a table that passes two tests: its 256 entries are bytes, and no value stands twice
 pub record Telling (f : List ℕ) : Type 0 where
@@ -71,17 +71,17 @@ pub record Telling (f : List ℕ) : Type 0 where
 telling : (f : List ℕ) → T (all (λ k. ltb (get_or f k 0) 256) 0 256) → NoValueTwice f → Telling f
 telling f t n = record { small = λ k h. ltb-true (get_or f k 0) 256 (holds (λ k. ltb (get_or f k 0) 256) 0 256 t k zero-le h); once = n }
 
-tea5-telling : Telling fTea5
-unfolding fTea5
-tea5-telling = telling fTea5 tt tea5-no-value-twice
+tea5-telling : Telling f_tea5
+unfolding f_tea5
+tea5-telling = telling f_tea5 tt tea5-no-value-twice
 
-tea6-telling : Telling fTea6
-unfolding fTea6
-tea6-telling = telling fTea6 tt tea6-no-value-twice
+tea6-telling : Telling f_tea6
+unfolding f_tea6
+tea6-telling = telling f_tea6 tt tea6-no-value-twice
 
-tea7-telling : Telling fTea7
-unfolding fTea7
-tea7-telling = telling fTea7 tt tea7-no-value-twice
+tea7-telling : Telling f_tea7
+unfolding f_tea7
+tea7-telling = telling f_tea7 tt tea7-no-value-twice
 
 pub all-telling : (algorithm : ℕ) → Telling (combining algorithm)
 unfolding combining
@@ -105,8 +105,8 @@ module _ (f : List ℕ) (good : Telling f) (ck : List ℕ) (small-key : Bytes ck
   entry-small r c hr hc = good.small (r * 16 + c) (omega arith)
 
   pair-told : (v w : List ℕ) → length v ≡ 24 → length w ≡ 24 → ((k : ℕ) → k < 24 → get_or v k 0 < 256) → ((k : ℕ) → k < 24 → get_or w k 0 < 256)
-      → modeKey f ck v ≡ modeKey f ck w → modeValue f ck v ≡ modeValue f ck w → v ≡ w
-  unfolding modeKey modeValue
+      → mode_key f ck v ≡ mode_key f ck w → mode_value f ck v ≡ mode_value f ck w → v ≡ w
+  unfolding mode_key mode_value
   pair-told v w lv lw sv sw e g =
       ext_get_or 0 v w (lv ∙ sym lw)
       (λ k l.
@@ -131,8 +131,8 @@ module _ (f : List ℕ) (good : Telling f) (ck : List ℕ) (small-key : Bytes ck
 -- under every algorithm, the mode key and the mode value together tell the initial value
 pub pair-apart : (algorithm : ℕ) (ck x y : List ℕ) → Bytes ck → InitialValue x → InitialValue y
     → (mode_of algorithm ck x).key ≡ (mode_of algorithm ck y).key → (mode_of algorithm ck x).value ≡ (mode_of algorithm ck y).value → x ≡ y
-unfolding mode_of modeBy
+unfolding mode_of mode_by
 pair-apart algorithm ck x y k p q e g =
     mixed-apart x y p.long q.long
-    (pair-told (combining algorithm) (all-telling algorithm) ck k (mixedValue x) (mixedValue y) (length-mixed x) (length-mixed y)
+    (pair-told (combining algorithm) (all-telling algorithm) ck k (mixed_value x) (mixed_value y) (length-mixed x) (length-mixed y)
     (mixed-small x p.long p.bytes) (mixed-small y q.long q.bytes) e g)

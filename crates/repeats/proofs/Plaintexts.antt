@@ -13,9 +13,9 @@ use Rattle.laws.proofs.Cases.{lt-or-le, below-eight, pick-cases}
 use Rattle.laws.proofs.Lists.{length-tabulate, get_d_tabulate}
 use Rattle.words.specs.Words.{join, byte_of}
 use Rattle.tea.specs.declared.mode.Mode.{Mode}
-use Rattle.algorithms.specs.Algorithm.{combining, digitOf}
-use Rattle.tea.specs.Mode.{first_of, second_of, modeValue, modeBy, mode_of}
-use Rattle.tea.specs.Mixing.{mixedValue}
+use Rattle.algorithms.specs.Algorithm.{combining, digit_of}
+use Rattle.tea.specs.Mode.{first_of, second_of, mode_value, mode_by, mode_of}
+use Rattle.tea.specs.Mixing.{mixed_value}
 use Rattle.tea.specs.Keystream.{tag, plaintext}
 use Rattle.both_ways.specs.Block.{Block}
 use Rattle.repeats.specs.Repeats.{Bytes}
@@ -79,31 +79,31 @@ value-told v w d e r q lv lw z =
 
 -- the mode of any numbers is such a mode
 
-pub length-value : (f ck v : List ℕ) → length (modeValue f ck v) ≡ 24
-unfolding modeValue
+pub length-value : (f ck v : List ℕ) → length (mode_value f ck v) ≡ 24
+unfolding mode_value
 length-value f ck v = length-tabulate _ 0 24
 
 halves_small : (a b : ℕ) → a % 16 * 16 + b % 16 < 256
 halves_small a b = omega arith
 
-value-bytes : (f ck v : List ℕ) → Bytes (modeValue f ck v)
-unfolding modeValue
+value-bytes : (f ck v : List ℕ) → Bytes (mode_value f ck v)
+unfolding mode_value
 value-bytes f ck v k =
     ⊎_elim
     (λ h. subst (λ (x : ℕ). x < 256) (sym (get_d_tabulate (λ j. first_of f ck v j % 16 * 16 + second_of f ck v j % 16) 0 24 k 0 h)) (halves_small (first_of f ck v (0 + k)) (second_of f ck v (0 + k))))
-    (λ h. subst (λ (x : ℕ). x < 256) (sym (get_or-eq_default (modeValue f ck v) 0 (omega (arith, length-value f ck v)))) (lit< tt)) (lt-or-le k 24)
+    (λ h. subst (λ (x : ℕ). x < 256) (sym (get_or-eq_default (mode_value f ck v) 0 (omega (arith, length-value f ck v)))) (lit< tt)) (lt-or-le k 24)
 
-digit-small : (algorithm : ℕ) → digitOf algorithm < 256
-unfolding digitOf
+digit-small : (algorithm : ℕ) → digit_of algorithm < 256
+unfolding digit_of
 digit-small algorithm =
     pick-cases (λ (x : ℕ). x < 256) (eqb algorithm 5) {x = 53} {y = pick (eqb algorithm 6) 54 55} (λ e. lit< tt)
     (λ e. pick-cases (λ (x : ℕ). x < 256) (eqb algorithm 6) {x = 54} {y = 55} (λ e. lit< tt) (λ e. lit< tt))
 
 pub mode-good : (algorithm : ℕ) (ck iv : List ℕ) → GoodMode (mode_of algorithm ck iv)
-unfolding mode_of modeBy
+unfolding mode_of mode_by
 mode-good algorithm ck iv =
     record {
-      long = length-value (combining algorithm) ck (mixedValue iv);
-      bytes = value-bytes (combining algorithm) ck (mixedValue iv);
+      long = length-value (combining algorithm) ck (mixed_value iv);
+      bytes = value-bytes (combining algorithm) ck (mixed_value iv);
       digit = digit-small algorithm;
     }

@@ -10,12 +10,12 @@ use lib.Seq.{ext_get_or}
 use Rattle.laws.specs.Lists.{tabulate}
 use Rattle.laws.proofs.Lists.{length-tabulate, get_d_tabulate, tabulate-at}
 use Rattle.words.specs.Words.{join}
-use Rattle.schedule.specs.Schedule.{packed, keyWord}
+use Rattle.schedule.specs.Schedule.{packed, key_word}
 use Rattle.rijndael.specs.Cipher.{cipher}
 use Rattle.schedule.proofs.KeyWords.{word_first}
 use Rattle.algorithms.specs.Algorithm.{combining}
-use Rattle.tea.specs.Mixing.{mixedValue}
-use Rattle.tea.specs.Mode.{first_of, second_of, modeKey, modeBy, mode_of}
+use Rattle.tea.specs.Mixing.{mixed_value}
+use Rattle.tea.specs.Mode.{first_of, second_of, mode_key, mode_by, mode_of}
 use Rattle.tea.specs.Keystream.{plaintext, block_of}
 use Rattle.both_ways.proofs.Blocks.{cipher-apart}
 use Rattle.both_ways.proofs.Steps.{below-four}
@@ -46,7 +46,7 @@ word-told k l p q i h e =
     below-four (λ r. get_or k (4 * i + r) 0 ≡ get_or l (4 * i + r) 0) (rw add-zero t.0) t.1 t.2 t.3
 
 -- the first six words of a schedule tell the key
-schedule-told : (k l : List ℕ) → Key k → Key l → tabulate (keyWord k) 0 120 ≡ tabulate (keyWord l) 0 120 → k ≡ l
+schedule-told : (k l : List ℕ) → Key k → Key l → tabulate (key_word k) 0 120 ≡ tabulate (key_word l) 0 120 → k ≡ l
 schedule-told k l p q e =
     ext_get_or 0 k l (p.0 ∙ sym q.0)
     (λ n h.
@@ -58,13 +58,13 @@ schedule-told k l p q e =
     word : (i : ℕ) → i < 6 → packed k i ≡ packed l i
     word i h =
         let m : i < 120 = omega arith in
-        word_first k i h ∙ sym (tabulate-at (keyWord k) 0 refl i m) ∙ ap (λ (w : List ℕ). get_or w i 0) e ∙ tabulate-at (keyWord l) 0 refl i m ∙ sym (word_first l i h)
+        word_first k i h ∙ sym (tabulate-at (key_word k) 0 refl i m) ∙ ap (λ (w : List ℕ). get_or w i 0) e ∙ tabulate-at (key_word l) 0 refl i m ∙ sym (word_first l i h)
 
 halves_small : (a b : ℕ) → a < 256 → b < 256 → a / 16 * 16 + b / 16 < 256
 halves_small a b ha hb = omega arith
 
-mode-key : (f : List ℕ) → Telling f → (ck : List ℕ) → Bytes ck → (v : List ℕ) → ((k : ℕ) → k < 24 → get_or v k 0 < 256) → Key (modeKey f ck v)
-unfolding modeKey
+mode-key : (f : List ℕ) → Telling f → (ck : List ℕ) → Bytes ck → (v : List ℕ) → ((k : ℕ) → k < 24 → get_or v k 0 < 256) → Key (mode_key f ck v)
+unfolding mode_key
 mode-key f good ck small-key v small = (
   length-tabulate _ 0 24,
   λ k h.
@@ -75,12 +75,12 @@ mode-key f good ck small-key v small = (
 )
 
 mode-key-of : (algorithm : ℕ) (ck iv : List ℕ) → Bytes ck → InitialValue iv → Key (mode_of algorithm ck iv).key
-unfolding mode_of modeBy
-mode-key-of algorithm ck iv k p = mode-key (combining algorithm) (all-telling algorithm) ck k (mixedValue iv) (mixed-small iv p.long p.bytes)
+unfolding mode_of mode_by
+mode-key-of algorithm ck iv k p = mode-key (combining algorithm) (all-telling algorithm) ck k (mixed_value iv) (mixed-small iv p.long p.bytes)
 
 -- one algorithm and key, two initial values: the same schedule and the same first plaintext, only if they are the same initial value
 pub starts_apart : (algorithm : ℕ) (ck x y : List ℕ) → Bytes ck → InitialValue x → InitialValue y
-    → tabulate (keyWord (mode_of algorithm ck x).key) 0 120 ≡ tabulate (keyWord (mode_of algorithm ck y).key) 0 120
+    → tabulate (key_word (mode_of algorithm ck x).key) 0 120 ≡ tabulate (key_word (mode_of algorithm ck y).key) 0 120
     → plaintext (mode_of algorithm ck x).value (mode_of algorithm ck x).digit 0 ≡ plaintext (mode_of algorithm ck y).value (mode_of algorithm ck y).digit 0 → x ≡ y
 starts_apart algorithm ck x y k p q e g =
     pair-apart algorithm ck x y k p q

@@ -12,10 +12,10 @@ use Rattle.laws.specs.Lists.{tabulate, window, sequence}
 use Rattle.laws.proofs.Cases.{lt-or-le}
 use Rattle.laws.proofs.Tests.{all, holds}
 use Rattle.gf256.specs.Field.{times}
-use Rattle.algorithms.specs.Combining.{fTea7}
+use Rattle.algorithms.specs.Combining.{f_tea7}
 use Rattle.algorithms.specs.Algorithm.{combining}
-use Rattle.tea.specs.Mixing.{expandedByte, mixedValue}
-use Rattle.tea.specs.Mode.{modeValue, modeBy, mode_of}
+use Rattle.tea.specs.Mixing.{expanded_byte, mixed_value}
+use Rattle.tea.specs.Mode.{mode_value, mode_by, mode_of}
 use Rattle.repeats.specs.Repeats.{Bytes, InitialValue}
 
 abbrev pub key : List ℕ
@@ -29,7 +29,7 @@ abbrev pub other : List ℕ
 other = 0x94 ∷ 0xb5 ∷ 0x03 ∷ 0xeb ∷ 0x6d ∷ 0x9f ∷ 0xb8 ∷ 0x60 ∷ 0xff ∷ 0x57 ∷ []
 
 pub same-value : (mode_of 7 key one).value ≡ (mode_of 7 key other).value
-unfolding mode_of modeBy modeValue combining fTea7 mixedValue expandedByte sequence window tabulate times
+unfolding mode_of mode_by mode_value combining f_tea7 mixed_value expanded_byte sequence window tabulate times
 same-value = refl
 
 pub not_same : one ≡ other → ⊥

@@ -5,7 +5,7 @@ use Prim.Native.Nat.{ℕ}
 use borrow.Author.Tests.{eqb-true, eq-eqb}
 use lib.Dec.{eqb}
 use Rattle.laws.proofs.Cases.{and_left, and_right}
-use Rattle.fields.specs.Fields.{isUse}
+use Rattle.fields.specs.Fields.{is_use}
 use Rattle.rights.specs.Rights.{includes, within}
 
 -- what holds of use 3 and of the same use holds of each use that includes it
@@ -19,10 +19,10 @@ includes-cases usage code P e three same = go (eqb usage 3) refl (eqb usage code
 
 pub within-includes : (usage present direction : ℕ) → within usage present ≡ true → includes usage direction ≡ true → includes present direction ≡ true
 within-includes usage present direction e h =
-    includes-cases present usage (λ (u : ℕ). includes u direction ≡ true) (and_right (isUse usage) (includes present usage) e) refl h
+    includes-cases present usage (λ (u : ℕ). includes u direction ≡ true) (and_right (is_use usage) (includes present usage) e) refl h
 
 pub within-trans : (a b c : ℕ) → within a b ≡ true → within b c ≡ true → within a c ≡ true
-within-trans a b c e h = rw (and_left (isUse a) (includes b a) e) (within-includes b c a h (and_right (isUse a) (includes b a) e))
+within-trans a b c e h = rw (and_left (is_use a) (includes b a) e) (within-includes b c a h (and_right (is_use a) (includes b a) e))
 
-pub within_same : (usage : ℕ) → isUse usage ≡ true → within usage usage ≡ true
+pub within_same : (usage : ℕ) → is_use usage ≡ true → within usage usage ≡ true
 within_same usage e = rw (e, eq-eqb usage usage refl) (or-true (eqb usage 3))

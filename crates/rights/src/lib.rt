@@ -1,9 +1,9 @@
 // What a use allows, and what a move may make of it (document 01, "Slots and rights").
 ghost use Rattle.std.specs.Prelude.{◌≡◌};
-ghost use Rattle.rights.specs.Rights.{isDirection, includes, within, isAskedUse, movedUse, staysWithin, mayMove};
+ghost use Rattle.rights.specs.Rights.{is_direction, includes, within, is_asked_use, moved_use, stays_within, may_move};
 
 pub fn is_direction(d: u64) -> bool
-    ensures { result ≡ isDirection d }
+    ensures { result ≡ is_direction d }
 {
     1 <= d && d <= 2
 }
@@ -21,27 +21,27 @@ pub fn lies_within(usage: u64, present: u8) -> bool
 }
 
 pub fn moved_use(present: u8, asked: u64) -> u64
-    ensures { result ≡ movedUse present asked }
+    ensures { result ≡ moved_use present asked }
 {
     if asked == 0 { present as u64 } else { asked }
 }
 
 pub fn stays_within(present: u8, asked: u64) -> bool
-    ensures { result ≡ staysWithin present asked }
+    ensures { result ≡ stays_within present asked }
 {
     lies_within(moved_use(present, asked), present)
 }
 
 // Asked 0 keeps send or receive alone: both has to be asked for.
 pub fn may_move(present: u8, asked: u64) -> bool
-    ensures { result ≡ mayMove present asked }
+    ensures { result ≡ may_move present asked }
 {
     stays_within(present, asked) && !(asked == 0 && present == 3)
 }
 
 // 0 asks for no other use.
 pub fn is_asked_use(asked: u64) -> bool
-    ensures { result ≡ isAskedUse asked }
+    ensures { result ≡ is_asked_use asked }
 {
     asked <= 3
 }

@@ -8,18 +8,18 @@ use lib.Dec.{lit<}
 use lib.ListN.{set}
 use Rattle.laws.specs.Lists.{cell, Filled}
 use Rattle.laws.proofs.Lists.{fill-at, fill-to}
-use Rattle.round_steps.specs.Steps.{roundOf}
+use Rattle.round_steps.specs.Steps.{round_of}
 use Rattle.rijndael.specs.Cipher.{rounds}
 
-next : (w : List ℕ) (s : List (List ℕ)) (m : ℕ) → roundOf w (m + 1) (rounds w s m) ≡ rounds w s (m + 1)
+next : (w : List ℕ) (s : List (List ℕ)) (m : ℕ) → round_of w (m + 1) (rounds w s m) ≡ rounds w s (m + 1)
 unfolding rounds
 next w s m = rw add-one
 
-pub rounds-more : (w : List ℕ) (s : List (List ℕ)) (n : ℕ) → 1 ≤ n → roundOf w n (rounds w s (n - 1)) ≡ rounds w s (n + 1 - 1)
+pub rounds-more : (w : List ℕ) (s : List (List ℕ)) (n : ℕ) → 1 ≤ n → round_of w n (rounds w s (n - 1)) ≡ rounds w s (n + 1 - 1)
 rounds-more w s n h =
     let e : n ≡ n - 1 + 1 = omega arith in
     let f : n - 1 + 1 ≡ n + 1 - 1 = omega arith in
-    ap (λ (m : ℕ). roundOf w m (rounds w s (n - 1))) e ∙ next w s (n - 1) ∙ ap (rounds w s) f
+    ap (λ (m : ℕ). round_of w m (rounds w s (n - 1))) e ∙ next w s (n - 1) ∙ ap (rounds w s) f
 
 -- byte 4 c + r of a block is cell (r, c)
 at : (s : List (List ℕ)) (r c k : ℕ) → r < 4 → k ≡ 4 * c + r → cell s r c ≡ cell s (k % 4) (k / 4)

@@ -1,8 +1,8 @@
 // Rijndael with blocks of 256 bits and keys of 192 bits: 14 rounds on a state of four rows by eight columns.
 ghost use Rattle.std.specs.Prelude.{◌≡◌, length};
-ghost use Rattle.gf256.specs.Field.{sBoxes};
+ghost use Rattle.gf256.specs.Field.{s_boxes};
 ghost use Rattle.products.specs.Products.{products};
-ghost use Rattle.rijndael.specs.Cipher.{toState, toBlock, encrypted};
+ghost use Rattle.rijndael.specs.Cipher.{to_state, to_block, encrypted};
 
 use round_steps::last_round;
 use rounds::packing::{from_words, keyed_words, to_words};
@@ -10,7 +10,7 @@ use rounds::round;
 
 // Byte k of a block stands in row k mod 4, column k div 4.
 pub fn to_state(b: [u8; 32]) -> [[u8; 8]; 4]
-    ensures { result ≡ toState b }
+    ensures { result ≡ to_state b }
 {
     let mut t = [[0u8; 8]; 4];
     for c in 0..8 {
@@ -23,7 +23,7 @@ pub fn to_state(b: [u8; 32]) -> [[u8; 8]; 4]
 }
 
 pub fn to_block(s: [[u8; 8]; 4]) -> [u8; 32]
-    ensures { result ≡ toBlock s }
+    ensures { result ≡ to_block s }
 {
     let mut b = [0u8; 32];
     for c in 0..8 {
@@ -37,7 +37,7 @@ pub fn to_block(s: [[u8; 8]; 4]) -> [u8; 32]
 
 // The initial key, rounds 1 to 13, and the final round. Between two rounds the state is eight words.
 fn encrypt(s: [[u8; 8]; 4], w: &[u32], table: &[u8; 256], mixes: &[u8; 2048]) -> [[u8; 8]; 4]
-    requires { (length w.now ≡ 120) × ((table.now ≡ sBoxes) × (mixes.now ≡ products)) }
+    requires { (length w.now ≡ 120) × ((table.now ≡ s_boxes) × (mixes.now ≡ products)) }
     ensures { result ≡ encrypted w.now s }
 {
     let mut t = keyed_words(s, w);
@@ -50,8 +50,8 @@ fn encrypt(s: [[u8; 8]; 4], w: &[u32], table: &[u8; 256], mixes: &[u8; 2048]) ->
 
 // A block under a schedule. It is the one caller of `encrypt`, which is inlined only so.
 pub fn encrypt_block(b: [u8; 32], w: &[u32], table: &[u8; 256], mixes: &[u8; 2048]) -> [u8; 32]
-    requires { (length w.now ≡ 120) × ((table.now ≡ sBoxes) × (mixes.now ≡ products)) }
-    ensures { result ≡ toBlock (encrypted w.now (toState b)) }
+    requires { (length w.now ≡ 120) × ((table.now ≡ s_boxes) × (mixes.now ≡ products)) }
+    ensures { result ≡ to_block (encrypted w.now (to_state b)) }
 {
     to_block(encrypt(to_state(b), w, table, mixes))
 }

@@ -1,14 +1,14 @@
 // The steps of a round (the Rijndael proposal, 4.2), on a state of four rows by eight columns by value: loops over the columns.
 ghost use Rattle.std.specs.Prelude.{◌≡◌, ◌<◌, length};
-ghost use Rattle.gf256.specs.Field.{sBoxes};
-ghost use Rattle.round_steps.specs.Steps.{byteSub, shiftRow, addRoundKey, finalRound};
+ghost use Rattle.gf256.specs.Field.{s_boxes};
+ghost use Rattle.round_steps.specs.Steps.{byte_sub, shift_row, add_round_key, final_round};
 
 use gf256::substituted;
 use words::{byte0, byte1, byte2, byte3};
 
 fn byte_sub(s: [[u8; 8]; 4], table: &[u8; 256]) -> [[u8; 8]; 4]
-    requires { table.now ≡ sBoxes }
-    ensures { result ≡ byteSub s }
+    requires { table.now ≡ s_boxes }
+    ensures { result ≡ byte_sub s }
 {
     let mut t = s;
     for r in 0..4 {
@@ -20,7 +20,7 @@ fn byte_sub(s: [[u8; 8]; 4], table: &[u8; 256]) -> [[u8; 8]; 4]
 }
 
 fn shift_row(s: [[u8; 8]; 4]) -> [[u8; 8]; 4]
-    ensures { result ≡ shiftRow s }
+    ensures { result ≡ shift_row s }
 {
     let mut t = s;
     for c in 0..8 {
@@ -34,7 +34,7 @@ fn shift_row(s: [[u8; 8]; 4]) -> [[u8; 8]; 4]
 
 pub fn add_round_key(s: [[u8; 8]; 4], w: &[u32], n: usize) -> [[u8; 8]; 4]
     requires { (length w.now ≡ 120) × (n < 15) }
-    ensures { result ≡ addRoundKey w.now n s }
+    ensures { result ≡ add_round_key w.now n s }
 {
     let mut t = s;
     for c in 0..8 {
@@ -48,8 +48,8 @@ pub fn add_round_key(s: [[u8; 8]; 4], w: &[u32], n: usize) -> [[u8; 8]; 4]
 }
 
 pub fn last_round(s: [[u8; 8]; 4], w: &[u32], n: usize, table: &[u8; 256]) -> [[u8; 8]; 4]
-    requires { (length w.now ≡ 120) × ((n < 15) × (table.now ≡ sBoxes)) }
-    ensures { result ≡ finalRound w.now n s }
+    requires { (length w.now ≡ 120) × ((n < 15) × (table.now ≡ s_boxes)) }
+    ensures { result ≡ final_round w.now n s }
 {
     add_round_key(shift_row(byte_sub(s, table)), w, n)
 }

@@ -12,10 +12,10 @@ use lib.Seq.{get_or-set_same, get_or-set_other}
 use Rattle.laws.specs.Lists.{cell, grid, tabulate}
 use Rattle.laws.proofs.States.{Shape, put, Placed, Apart, place-more, columns-all, grid-at}
 use Rattle.laws.proofs.Tests.{agree}
-use Rattle.gf256.specs.Field.{sBox}
+use Rattle.gf256.specs.Field.{s_box}
 use Rattle.words.specs.Words.{byte_of, word_bytes}
-use Rattle.round_steps.specs.Steps.{byteSub, shift_of, shiftRow, mixedByte, mixColumn, addRoundKey, roundOf}
-use Rattle.rounds.specs.Columns.{ofWords, mixedColumn}
+use Rattle.round_steps.specs.Steps.{byte_sub, shift_of, shift_row, mixed_byte, mix_column, add_round_key, round_of}
+use Rattle.rounds.specs.Columns.{of_words, mixed_column}
 use Rattle.words.proofs.Bytes.{sum-byte, summed}
 
 -- equal lists have equal entries
@@ -61,8 +61,8 @@ shape_of : (f : ℕ → ℕ → ℕ) → Shape (grid 4 8 f)
 unfolding grid tabulate
 shape_of f = record { rows = refl; row = below-four (λ r. length (get_or (grid 4 8 f) r []) ≡ 8) refl refl refl refl }
 
-pub pack-all : (f : ℕ → ℕ → ℕ) {x : List ℕ} {n : ℕ} → Packed f x n → 8 ≤ n → ofWords x ≡ grid 4 8 f
-unfolding ofWords
+pub pack-all : (f : ℕ → ℕ → ℕ) {x : List ℕ} {n : ℕ} → Packed f x n → 8 ≤ n → of_words x ≡ grid 4 8 f
+unfolding of_words
 pack-all f {x} {n} g h =
     columns-all {c = 8}
     (record {
@@ -77,25 +77,25 @@ pub own-cells : {s : List (List ℕ)} → Shape s → grid 4 8 (cell s) ≡ s
 own-cells {s} shape = sym (columns-all {c = 8} (record { upto = omega arith; shape = shape; cells = λ r c hr hc p. refl }) (omega arith))
 
 -- what the initial key leaves in a cell
-abbrev pub firstKeyed : List ℕ → List (List ℕ) → ℕ → ℕ → ℕ
-firstKeyed w s r c = bit_xor (cell s r c) (byte_of (get_or w (8 * 0 + c) 0) r)
+abbrev pub first_keyed : List ℕ → List (List ℕ) → ℕ → ℕ → ℕ
+first_keyed w s r c = bit_xor (cell s r c) (byte_of (get_or w (8 * 0 + c) 0) r)
 
 -- one word more: a column's, with its word of the key
-pub keyed-more : (w : List ℕ) (s : List (List ℕ)) {x : List ℕ} {c : ℕ} → Packed (firstKeyed w s) x c → c < 8 → (v : ℕ) → word_bytes v ≡ cell s 0 c ∷ cell s 1 c ∷ cell s 2 c ∷ cell s 3 c ∷ []
-    → Packed (firstKeyed w s) (set x c (bit_xor v (get_or w c 0))) (c + 1)
+pub keyed-more : (w : List ℕ) (s : List (List ℕ)) {x : List ℕ} {c : ℕ} → Packed (first_keyed w s) x c → c < 8 → (v : ℕ) → word_bytes v ≡ cell s 0 c ∷ cell s 1 c ∷ cell s 2 c ∷ cell s 3 c ∷ []
+    → Packed (first_keyed w s) (set x c (bit_xor v (get_or w c 0))) (c + 1)
 keyed-more w s {x} {c} g h v e =
     let q : 8 * 0 + c ≡ c = omega arith in
-    subst (λ (m : ℕ). Packed (firstKeyed w s) (set x c (bit_xor v (get_or w m 0))) (c + 1)) q (pack-more g h _ (summed v (get_or w (8 * 0 + c) 0) e refl))
+    subst (λ (m : ℕ). Packed (first_keyed w s) (set x c (bit_xor v (get_or w m 0))) (c + 1)) q (pack-more g h _ (summed v (get_or w (8 * 0 + c) 0) e refl))
 
 -- a byte through the S-box, in its new place
 abbrev pub moved : List (List ℕ) → ℕ → ℕ → ℕ
-moved s r c = sBox (cell s r ((c + shift_of r) % 8))
+moved s r c = s_box (cell s r ((c + shift_of r) % 8))
 
-moved-is : (s : List (List ℕ)) (r c : ℕ) → r < 4 → c < 8 → cell (shiftRow (byteSub s)) r c ≡ moved s r c
-unfolding shiftRow byteSub
+moved-is : (s : List (List ℕ)) (r c : ℕ) → r < 4 → c < 8 → cell (shift_row (byte_sub s)) r c ≡ moved s r c
+unfolding shift_row byte_sub
 moved-is s r c hr hc =
-    grid-at (λ r c. cell (byteSub s) r ((c + shift_of r) % 8)) refl r c hr hc
-    ∙ grid-at (λ r c. sBox (cell s r c)) refl r ((c + shift_of r) % 8) hr (omega arith)
+    grid-at (λ r c. cell (byte_sub s) r ((c + shift_of r) % 8)) refl r c hr hc
+    ∙ grid-at (λ r c. s_box (cell s r c)) refl r ((c + shift_of r) % 8) hr (omega arith)
 
 -- a column less is left
 pub fewer : (c : ℕ) → c < 8 → 8 - (c + 1) < 8 - c
@@ -108,74 +108,74 @@ small c h = omega arith
 -- what the round leaves in a cell
 abbrev pub rounded : List ℕ → ℕ → List (List ℕ) → ℕ → ℕ → ℕ
 rounded w n s r c =
-    bit_xor (mixedByte (moved s r c) (moved s ((r + 1) % 4) c) (moved s ((r + 2) % 4) c) (moved s ((r + 3) % 4) c)) (byte_of (get_or w (8 * n + c) 0) r)
+    bit_xor (mixed_byte (moved s r c) (moved s ((r + 1) % 4) c) (moved s ((r + 2) % 4) c) (moved s ((r + 3) % 4) c)) (byte_of (get_or w (8 * n + c) 0) r)
 
 -- a byte of a mixed column, with the round's key
 keyed : (r k v m b : ℕ) → byte_of v r ≡ m → b ≡ byte_of (bit_xor k v) r → b ≡ bit_xor m (byte_of k r)
 keyed r k v m b e q = q ∙ sum-byte r k v ∙ ap (bit_xor (byte_of k r)) e ∙ xor_comm (byte_of k r) m
 
 -- columns 4 to 7 first, and then 0 to 3
-abbrev pub byHalf : ℕ → ℕ → ℕ
-byHalf r c = 4 * ((c + 4) % 8) + r
+abbrev pub by_half : ℕ → ℕ → ℕ
+by_half r c = 4 * ((c + 4) % 8) + r
 
 half_back : (c : ℕ) → c < 8 → ((c + 4) % 8 + 4) % 8 ≡ c
 half_back c h = agree (λ c. ((c + 4) % 8 + 4) % 8) (λ c. c) 0 8 tt c zero-le h
 
-half-apart : Apart byHalf
+half-apart : Apart by_half
 half-apart r c i k hr hc hi hk e =
     let p : (k + 4) % 8 ≡ (c + 4) % 8 = omega arith in
     (omega arith, sym (half_back k hk) ∙ ap (λ (m : ℕ). (m + 4) % 8) p ∙ half_back c hc)
 
 -- one column more: v is the mixed column, and the bytes of its sum with the key are stored
-module _ (w : List ℕ) (n : ℕ) (s : List (List ℕ)) {t : List (List ℕ)} {e : ℕ} (g : Placed byHalf (rounded w n s) t (4 * e)) (h : e < 8) where
+module _ (w : List ℕ) (n : ℕ) (s : List (List ℕ)) {t : List (List ℕ)} {e : ℕ} (g : Placed by_half (rounded w n s) t (4 * e)) (h : e < 8) where
   abbrev at : ℕ
   at = (e + 4) % 8
 
   abbrev in-0 : ℕ
-  in-0 = sBox (cell s 0 at)
+  in-0 = s_box (cell s 0 at)
 
   abbrev in-1 : ℕ
-  in-1 = sBox (cell s 1 ((at + 1) % 8))
+  in-1 = s_box (cell s 1 ((at + 1) % 8))
 
   abbrev in-2 : ℕ
-  in-2 = sBox (cell s 2 ((at + 3) % 8))
+  in-2 = s_box (cell s 2 ((at + 3) % 8))
 
   abbrev in-3 : ℕ
-  in-3 = sBox (cell s 3 ((at + 4) % 8))
+  in-3 = s_box (cell s 3 ((at + 4) % 8))
 
   abbrev key : ℕ
   key = get_or w (8 * n + at) 0
 
-  pub round-more : (v : ℕ) → word_bytes v ≡ mixedColumn in-0 in-1 in-2 in-3
+  pub round-more : (v : ℕ) → word_bytes v ≡ mixed_column in-0 in-1 in-2 in-3
       → (a b c d : ℕ) → a ≡ byte_of (bit_xor key v) 0 → b ≡ byte_of (bit_xor key v) 1 → c ≡ byte_of (bit_xor key v) 2 → d ≡ byte_of (bit_xor key v) 3
-      → Placed byHalf (rounded w n s) (put (put (put (put t 0 at a) 1 at b) 2 at c) 3 at d) (4 * (e + 1))
+      → Placed by_half (rounded w n s) (put (put (put (put t 0 at a) 1 at b) 2 at c) 3 at d) (4 * (e + 1))
   round-more v m a b c d pa pb pc pd =
       let l : at < 8 = omega arith in
       let z : at ≡ (at + 0) % 8 = omega arith in
       let o : (at + 4) % 8 ≡ e = half_back e h in
-      subst (λ (k : ℕ). Placed byHalf (rounded w n s) (put (put (put (put t 0 at a) 1 at b) 2 at c) 3 at d) k) (omega arith)
+      subst (λ (k : ℕ). Placed by_half (rounded w n s) (put (put (put (put t 0 at a) 1 at b) 2 at c) 3 at d) k) (omega arith)
       (place-more half-apart
       (place-more half-apart
       (place-more half-apart
       (place-more half-apart g 0 at (lit< tt) l (omega arith) (omega (arith, o)) a
-      (keyed 0 key v _ a (entry m 0 ∙ (λ i. mixedByte (sBox (cell s 0 (z i))) in-1 in-2 in-3)) pa))
+      (keyed 0 key v _ a (entry m 0 ∙ (λ i. mixed_byte (s_box (cell s 0 (z i))) in-1 in-2 in-3)) pa))
       1 at (lit< tt) l (omega arith) (omega (arith, o)) b
-      (keyed 1 key v _ b (entry m 1 ∙ (λ i. mixedByte in-1 in-2 in-3 (sBox (cell s 0 (z i))))) pb))
+      (keyed 1 key v _ b (entry m 1 ∙ (λ i. mixed_byte in-1 in-2 in-3 (s_box (cell s 0 (z i))))) pb))
       2 at (lit< tt) l (omega arith) (omega (arith, o)) c
-      (keyed 2 key v _ c (entry m 2 ∙ (λ i. mixedByte in-2 in-3 (sBox (cell s 0 (z i))) in-1)) pc))
+      (keyed 2 key v _ c (entry m 2 ∙ (λ i. mixed_byte in-2 in-3 (s_box (cell s 0 (z i))) in-1)) pc))
       3 at (lit< tt) l (omega arith) (omega (arith, o)) d
-      (keyed 3 key v _ d (entry m 3 ∙ (λ i. mixedByte in-3 (sBox (cell s 0 (z i))) in-1 in-2)) pd))
+      (keyed 3 key v _ d (entry m 3 ∙ (λ i. mixed_byte in-3 (s_box (cell s 0 (z i))) in-1 in-2)) pd))
 
 mixed-is : (s : List (List ℕ)) (r c : ℕ) → r < 4 → c < 8
-    → cell (mixColumn (shiftRow (byteSub s))) r c ≡ mixedByte (moved s r c) (moved s ((r + 1) % 4) c) (moved s ((r + 2) % 4) c) (moved s ((r + 3) % 4) c)
-unfolding mixColumn
+    → cell (mix_column (shift_row (byte_sub s))) r c ≡ mixed_byte (moved s r c) (moved s ((r + 1) % 4) c) (moved s ((r + 2) % 4) c) (moved s ((r + 3) % 4) c)
+unfolding mix_column
 mixed-is s r c hr hc =
-    let t = shiftRow (byteSub s) in
-    grid-at (λ r c. mixedByte (cell t r c) (cell t ((r + 1) % 4) c) (cell t ((r + 2) % 4) c) (cell t ((r + 3) % 4) c)) refl r c hr hc
-    ∙ (λ i. mixedByte (moved-is s r c hr hc i) (moved-is s ((r + 1) % 4) c (omega arith) hc i) (moved-is s ((r + 2) % 4) c (omega arith) hc i) (moved-is s ((r + 3) % 4) c (omega arith) hc i))
+    let t = shift_row (byte_sub s) in
+    grid-at (λ r c. mixed_byte (cell t r c) (cell t ((r + 1) % 4) c) (cell t ((r + 2) % 4) c) (cell t ((r + 3) % 4) c)) refl r c hr hc
+    ∙ (λ i. mixed_byte (moved-is s r c hr hc i) (moved-is s ((r + 1) % 4) c (omega arith) hc i) (moved-is s ((r + 2) % 4) c (omega arith) hc i) (moved-is s ((r + 3) % 4) c (omega arith) hc i))
 
-pub round-all : (w : List ℕ) (n : ℕ) (s : List (List ℕ)) {t : List (List ℕ)} {e : ℕ} → Placed byHalf (rounded w n s) t (4 * e) → 8 ≤ e → t ≡ roundOf w n s
-unfolding addRoundKey
+pub round-all : (w : List ℕ) (n : ℕ) (s : List (List ℕ)) {t : List (List ℕ)} {e : ℕ} → Placed by_half (rounded w n s) t (4 * e) → 8 ≤ e → t ≡ round_of w n s
+unfolding add_round_key
 round-all w n s {t} {e} g h =
     columns-all {c = 8}
     (record {

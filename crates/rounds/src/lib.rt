@@ -4,7 +4,7 @@ pub mod packing;
 
 ghost use Rattle.std.specs.Prelude.{◌≡◌, ◌<◌, length};
 ghost use Rattle.products.specs.Products.{products};
-ghost use Rattle.round_steps.specs.Steps.{roundOf};
+ghost use Rattle.round_steps.specs.Steps.{round_of};
 
 use mixed::mixed_word;
 use words::{byte0, byte1, byte2, byte3};
@@ -13,7 +13,7 @@ use words::{byte0, byte1, byte2, byte3};
 // then keeps more of the state in registers: a block takes some 4 % less.
 pub fn round(s: [[u8; 8]; 4], w: &[u32], n: usize, mixes: &[u8; 2048]) -> [[u8; 8]; 4]
     requires { (length w.now ≡ 120) × ((n < 15) × (mixes.now ≡ products)) }
-    ensures { result ≡ roundOf w.now n s }
+    ensures { result ≡ round_of w.now n s }
 {
     let mut t = s;
     for e in 0..8 {

@@ -1,8 +1,8 @@
 // A state as eight words, a column each: between two rounds a word stands in a register, where four bytes would not.
 ghost use Rattle.std.specs.Prelude.{◌≡◌, [], ◌∷◌, length};
 ghost use Rattle.words.specs.Words.{word_bytes};
-ghost use Rattle.round_steps.specs.Steps.{addRoundKey};
-ghost use Rattle.rounds.specs.Columns.{ofWords};
+ghost use Rattle.round_steps.specs.Steps.{add_round_key};
+ghost use Rattle.rounds.specs.Columns.{of_words};
 
 use words::{byte0, byte1, byte2, byte3, join_bytes};
 
@@ -13,7 +13,7 @@ fn column_word(a: u8, b: u8, c: u8, d: u8) -> u32
 }
 
 pub fn to_words(s: [[u8; 8]; 4]) -> [u32; 8]
-    ensures { ofWords result ≡ s }
+    ensures { of_words result ≡ s }
 {
     let mut x = [0u32; 8];
     for c in 0..8 {
@@ -25,7 +25,7 @@ pub fn to_words(s: [[u8; 8]; 4]) -> [u32; 8]
 // The same with the initial key: word by word, where `add_round_key` would go by bytes.
 pub fn keyed_words(s: [[u8; 8]; 4], w: &[u32]) -> [u32; 8]
     requires { length w.now ≡ 120 }
-    ensures { ofWords result ≡ addRoundKey w.now 0 s }
+    ensures { of_words result ≡ add_round_key w.now 0 s }
 {
     let mut x = [0u32; 8];
     for c in 0..8 {
@@ -35,7 +35,7 @@ pub fn keyed_words(s: [[u8; 8]; 4], w: &[u32]) -> [u32; 8]
 }
 
 pub fn from_words(x: [u32; 8]) -> [[u8; 8]; 4]
-    ensures { result ≡ ofWords x }
+    ensures { result ≡ of_words x }
 {
     let mut t = [[0u8; 8]; 4];
     for c in 0..8 {

@@ -13,62 +13,62 @@ use Rattle.laws.specs.Lists.{Filled}
 use Rattle.laws.proofs.Lists.{length-tabulate, get_d_tabulate, fill-at, fill-to}
 use Rattle.laws.proofs.Xor.{xor_assoc}
 use Rattle.laws.proofs.Windows.{window-at, sequence-first, sequence-next}
-use Rattle.schedule.specs.Schedule.{rotByte, subByte, roundConstant, packed, carried, keyWord}
+use Rattle.schedule.specs.Schedule.{rot_byte, sub_byte, round_constant, packed, carried, key_word}
 
-pub word_first : (k : List ℕ) (i : ℕ) → i < 6 → packed k i ≡ keyWord k i
-unfolding keyWord
+pub word_first : (k : List ℕ) (i : ℕ) → i < 6 → packed k i ≡ key_word k i
+unfolding key_word
 word_first k i h = sym (sequence-first _ _ 5 (length-tabulate (packed k) 0 6) i h ∙ get_d_tabulate (packed k) 0 6 i 0 h ∙ ap (packed k) (zero-add i))
 
-pub word_next : (k : List ℕ) (i : ℕ) → keyWord k (i + 6) ≡ bit_xor (keyWord k i) (carried (i + 6) (keyWord k (i + 5)))
-unfolding keyWord
+pub word_next : (k : List ℕ) (i : ℕ) → key_word k (i + 6) ≡ bit_xor (key_word k i) (carried (i + 6) (key_word k (i + 5)))
+unfolding key_word
 word_next k i =
     sequence-next _ _ 5 (length-tabulate (packed k) 0 6) i
     ∙ rw (window-at _ _ 5 (length-tabulate (packed k) 0 6) i 0 (lit< tt), window-at _ _ 5 (length-tabulate (packed k) 0 6) i 5 (lit< tt), add-zero)
 
 -- a word whose number six divides, and any other
 abbrev turn : ℕ → ℕ → ℕ
-turn k x = bit_xor (subByte (rotByte x)) (roundConstant (k - 1) * 16777216)
+turn k x = bit_xor (sub_byte (rot_byte x)) (round_constant (k - 1) * 16777216)
 
-next-turned : (key : List ℕ) (k : ℕ) → 1 ≤ k → bit_xor (keyWord key (6 * k - 6)) (turn k (keyWord key (6 * k - 1))) ≡ keyWord key (6 * k)
+next-turned : (key : List ℕ) (k : ℕ) → 1 ≤ k → bit_xor (key_word key (6 * k - 6)) (turn k (key_word key (6 * k - 1))) ≡ key_word key (6 * k)
 unfolding carried
 next-turned key k h =
     let p : 6 * k - 6 + 6 ≡ 6 * k = omega arith in
     let q : 6 * k - 6 + 5 ≡ 6 * k - 1 = omega arith in
     let z : 6 * k % 6 ≡ 0 = omega arith in
     let d : 6 * k / 6 ≡ k = omega arith in
-    sym (ap (keyWord key) (sym p) ∙ word_next key (6 * k - 6) ∙ rw (p, q, eq-eqb (6 * k % 6) 0 z, d))
+    sym (ap (key_word key) (sym p) ∙ word_next key (6 * k - 6) ∙ rw (p, q, eq-eqb (6 * k % 6) 0 z, d))
 
-next-plain : (key : List ℕ) (i : ℕ) → 6 ≤ i → (i % 6 ≡ 0 → ⊥) → bit_xor (keyWord key (i - 6)) (keyWord key (i - 1)) ≡ keyWord key i
+next-plain : (key : List ℕ) (i : ℕ) → 6 ≤ i → (i % 6 ≡ 0 → ⊥) → bit_xor (key_word key (i - 6)) (key_word key (i - 1)) ≡ key_word key i
 unfolding carried
 next-plain key i h ne =
     let p : i - 6 + 6 ≡ i = omega arith in
     let q : i - 6 + 5 ≡ i - 1 = omega arith in
-    sym (ap (keyWord key) (sym p) ∙ word_next key (i - 6) ∙ rw (p, q, ne_eqb (i % 6) 0 ne))
+    sym (ap (key_word key) (sym p) ∙ word_next key (i - 6) ∙ rw (p, q, ne_eqb (i % 6) 0 ne))
 
 -- six words more: from words below 6 k that are right, the code's six stores
-module _ (key w : List ℕ) (k : ℕ) (g : Filled (keyWord key) 0 120 w (6 * k)) (l : 1 ≤ k) (u : k < 20) where
-  old : (j : ℕ) → 1 ≤ j → j ≤ 6 → get_or w (6 * k - j) 0 ≡ keyWord key (6 * k - j)
+module _ (key w : List ℕ) (k : ℕ) (g : Filled (key_word key) 0 120 w (6 * k)) (l : 1 ≤ k) (u : k < 20) where
+  old : (j : ℕ) → 1 ≤ j → j ≤ 6 → get_or w (6 * k - j) 0 ≡ key_word key (6 * k - j)
   old j p q = g.entries (6 * k - j) (omega arith)
 
   -- word 6 k + j from word 6 k + j - 6, of the old ones, and the word before it, made just now
-  step : (j i x : ℕ) → 1 ≤ j → j ≤ 5 → i ≡ 6 - j → x ≡ keyWord key (6 * k + (j - 1)) → bit_xor (get_or w (6 * k - i) 0) x ≡ keyWord key (6 * k + j)
+  step : (j i x : ℕ) → 1 ≤ j → j ≤ 5 → i ≡ 6 - j → x ≡ key_word key (6 * k + (j - 1)) → bit_xor (get_or w (6 * k - i) 0) x ≡ key_word key (6 * k + j)
   step j i x p q e h =
       let a : 6 * k - i ≡ 6 * k + j - 6 = omega arith in
       let b : 6 * k + (j - 1) ≡ 6 * k + j - 1 = omega arith in
       (λ z. bit_xor (old i (omega arith) (omega arith) z) (h z))
-      ∙ (λ z. bit_xor (keyWord key (a z)) (keyWord key (b z)))
+      ∙ (λ z. bit_xor (key_word key (a z)) (key_word key (b z)))
       ∙ next-plain key (6 * k + j) (omega arith) (λ z. omega arith)
 
   pub six-more : (a b c d e f : ℕ) → a ≡ bit_xor (get_or w (6 * k - 6) 0) (turn k (get_or w (6 * k - 1) 0)) → b ≡ bit_xor (get_or w (6 * k - 5) 0) a → c ≡ bit_xor (get_or w (6 * k - 4) 0) b
       → d ≡ bit_xor (get_or w (6 * k - 3) 0) c → e ≡ bit_xor (get_or w (6 * k - 2) 0) d → f ≡ bit_xor (get_or w (6 * k - 1) 0) e
-      → Filled (keyWord key) 0 120 (set (set (set (set (set (set w (6 * k) a) (6 * k + 1) b) (6 * k + 2) c) (6 * k + 3) d) (6 * k + 4) e) (6 * k + 5) f) (6 * k + 6)
+      → Filled (key_word key) 0 120 (set (set (set (set (set (set w (6 * k) a) (6 * k + 1) b) (6 * k + 2) c) (6 * k + 3) d) (6 * k + 4) e) (6 * k + 5) f) (6 * k + 6)
   six-more a b c d e f pa pb pc pd pe pf =
-      let qa : a ≡ keyWord key (6 * k) = pa ∙ (λ z. bit_xor (old 6 (lit≤ tt) (lit≤ tt) z) (turn k (old 1 (lit≤ tt) (lit≤ tt) z))) ∙ next-turned key k l in
-      let qb : b ≡ keyWord key (6 * k + 1) = pb ∙ step 1 5 a (lit≤ tt) (lit≤ tt) refl (qa ∙ ap (keyWord key) (sym (add-zero (6 * k)))) in
-      let qc : c ≡ keyWord key (6 * k + 2) = pc ∙ step 2 4 b (lit≤ tt) (lit≤ tt) refl qb in
-      let qd : d ≡ keyWord key (6 * k + 3) = pd ∙ step 3 3 c (lit≤ tt) (lit≤ tt) refl qc in
-      let qe : e ≡ keyWord key (6 * k + 4) = pe ∙ step 4 2 d (lit≤ tt) (lit≤ tt) refl qd in
-      let qf : f ≡ keyWord key (6 * k + 5) = pf ∙ step 5 1 e (lit≤ tt) (lit≤ tt) refl qe in
+      let qa : a ≡ key_word key (6 * k) = pa ∙ (λ z. bit_xor (old 6 (lit≤ tt) (lit≤ tt) z) (turn k (old 1 (lit≤ tt) (lit≤ tt) z))) ∙ next-turned key k l in
+      let qb : b ≡ key_word key (6 * k + 1) = pb ∙ step 1 5 a (lit≤ tt) (lit≤ tt) refl (qa ∙ ap (key_word key) (sym (add-zero (6 * k)))) in
+      let qc : c ≡ key_word key (6 * k + 2) = pc ∙ step 2 4 b (lit≤ tt) (lit≤ tt) refl qb in
+      let qd : d ≡ key_word key (6 * k + 3) = pd ∙ step 3 3 c (lit≤ tt) (lit≤ tt) refl qc in
+      let qe : e ≡ key_word key (6 * k + 4) = pe ∙ step 4 2 d (lit≤ tt) (lit≤ tt) refl qd in
+      let qf : f ≡ key_word key (6 * k + 5) = pf ∙ step 5 1 e (lit≤ tt) (lit≤ tt) refl qe in
       fill-to
       (fill-at
       (fill-at
@@ -107,24 +107,24 @@ low q a b e h = omega arith
 
 -- the bytes of a word that is turned by a byte
 module _ (x : ℕ) (h : x < 4294967296) where
-  turn_is : rotByte x ≡ x / 65536 % 256 * 16777216 + x / 256 % 256 * 65536 + x % 256 * 256 + x / 16777216
-  unfolding rotByte
+  turn_is : rot_byte x ≡ x / 65536 % 256 * 16777216 + x / 256 % 256 * 65536 + x % 256 * 256 + x / 16777216
+  unfolding rot_byte
   turn_is = omega (arith, split x)
 
-  pub turn-0 : rotByte x / 16777216 ≡ x / 65536 % 256
+  pub turn-0 : rot_byte x / 16777216 ≡ x / 65536 % 256
   turn-0 = let e = turn_is in omega arith
 
-  pub turn-1 : rotByte x / 65536 % 256 ≡ x / 256 % 256
+  pub turn-1 : rot_byte x / 65536 % 256 ≡ x / 256 % 256
   turn-1 =
       let e = turn_is in
-      let f : rotByte x / 65536 ≡ x / 65536 % 256 * 256 + x / 256 % 256 = omega arith in
+      let f : rot_byte x / 65536 ≡ x / 65536 % 256 * 256 + x / 256 % 256 = omega arith in
       low _ (x / 65536 % 256) (x / 256 % 256) f (omega arith)
 
-  pub turn-2 : rotByte x / 256 % 256 ≡ x / 1 % 256
+  pub turn-2 : rot_byte x / 256 % 256 ≡ x / 1 % 256
   turn-2 =
       let e = turn_is in
-      let f : rotByte x / 256 ≡ x / 65536 % 256 * 65536 + x / 256 % 256 * 256 + x % 256 = omega arith in
+      let f : rot_byte x / 256 ≡ x / 65536 % 256 * 65536 + x / 256 % 256 * 256 + x % 256 = omega arith in
       low _ (x / 65536 % 256 * 256 + x / 256 % 256) (x % 256) (f ∙ omega arith) (omega arith) ∙ whole x
 
-  pub turn-3 : rotByte x % 256 ≡ x / 16777216 % 256
+  pub turn-3 : rot_byte x % 256 ≡ x / 16777216 % 256
   turn-3 = let e = turn_is in omega arith

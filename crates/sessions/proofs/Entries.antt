@@ -12,8 +12,8 @@ use seplogic.Ra.Ura.{Ura}
 use prog.Memory.{Memory}
 use prog.Routine.{Routine}
 use Rattle.slots.specs.declared.Slot.{Slot}
-use Rattle.faces.specs.Faces.{asking, pduAs}
-use Rattle.faces.specs.Faces.{shownAs}
+use Rattle.faces.specs.Faces.{asking, pdu_as}
+use Rattle.faces.specs.Faces.{shown_as}
 use Rattle.card.specs.contracts.table.card_load as entry-load
 use Rattle.card.specs.contracts.table.card_move as entry-move
 use Rattle.card.specs.contracts.table.card_clear as entry-clear
@@ -23,7 +23,7 @@ use Rattle.card.specs.contracts.table.card_pdu as entry-pdu
 use Rattle.two_runs.specs.Calls.{span, pdu, Call, load, move, clear, read, traffic}
 use Rattle.two_runs.specs.Step.{Step, changing, reading, ciphering}
 use Rattle.two_runs.specs.Card.{step}
-use Rattle.demand_3.specs.Ours.{ourCard}
+use Rattle.demand_3.specs.Ours.{our_card}
 use Rattle.sessions.proofs.Lent.{lent-load-steps, lent-move-steps, lent-clear-steps, lent-read-steps, lent-traffic-steps, lent-pdu-steps}
 
 -- a call of a function, as its caller has it: the arguments, the last value of all that was lent to be written, and the answer
@@ -68,7 +68,7 @@ called (card-traffic m) =
     traffic (record { direction = direction; number = number; iv = iv.now }) buf.now (span start n skip)
 called (card-pdu m) =
     let (t, (direction, (number, (iv, (buf, (kind, (state, (l, (a, (s, end)))))))))) = m.args in
-    traffic (record { direction = direction; number = number; iv = iv.now }) buf.now (pdu (pduAs kind state l a s))
+    traffic (record { direction = direction; number = number; iv = iv.now }) buf.now (pdu (pdu_as kind state l a s))
 
 -- what C has afterwards: the records, and all that was given to it
 abbrev pub left : Entry → Step
@@ -77,7 +77,7 @@ left (card-move m) = let (t, rest) = ends _ m in changing (record { refusal = m.
 left (card-clear m) = let (t, rest) = ends _ m in changing (record { refusal = m.answer; table = t.now })
 left (card-read m) =
     let (t, (number, (there, (version, (algorithm, (usage, (side, (place, (mcc, (mnc, end)))))))))) = ends _ m in
-    reading t.now (shownAs m.answer there.now version.now algorithm.now usage.now side.now place.now mcc.now mnc.now)
+    reading t.now (shown_as m.answer there.now version.now algorithm.now usage.now side.now place.now mcc.now mnc.now)
 left (card-traffic m) =
     let (t, (direction, (number, (iv, (buf, (start, (n, (skip, (blocks, end))))))))) = ends _ m in
     ciphering t.now m.answer blocks.now buf.now
@@ -97,7 +97,7 @@ module _ {M : Type 1} {𝓤 : Ura M} (𝓛 : Logic 𝓤) (mem : Memory → SProp
 
   -- the contract makes the call the step
   abbrev pub Steps : Entry → Type 1
-  Steps x = length (before x) ≡ 32 → ent 𝓤 (promised x) (fact 𝓤 (left x ≡ step ourCard (before x) (called x)))
+  Steps x = length (before x) ≡ 32 → ent 𝓤 (promised x) (fact 𝓤 (left x ≡ step our_card (before x) (called x)))
 
   pub card-load-steps : (m : Made entry-load.ended) → Steps (card-load m)
   card-load-steps m whole = fact_mono 𝓤 _ _ (λ e. (λ i. changing (e i)) ∙ lent-load-steps _ whole _ _ _)

@@ -7,7 +7,7 @@ use Rattle.fields.specs.declared.Asked.{Asked}
 use Rattle.slots.specs.declared.Slot.{Slot}
 use Rattle.slot_calls.specs.declared.Changed.{Changed}
 use Rattle.slot_calls.specs.declared.Shown.{Shown}
-use Rattle.slots.specs.Slots.{emptyTable}
+use Rattle.slots.specs.Slots.{empty_table}
 use Rattle.slots.proofs.empty_table.Reads as slots-empty-table
 use Rattle.table_calls.proofs.load.Reads as slots-load
 use Rattle.table_calls.proofs.move_slot.Reads as slots-move-slot
@@ -16,28 +16,28 @@ use Rattle.table_calls.proofs.read.Reads as slots_read
 use Rattle.two_runs.specs.Calls.{load, move, clear, read}
 use Rattle.two_runs.specs.Step.{changing, reading}
 use Rattle.two_runs.specs.Card.{step}
-use Rattle.demand_3.specs.Ours.{ourCard}
+use Rattle.demand_3.specs.Ours.{our_card}
 
-pub empty-table-starts : (r : List Slot) (κs : _) (e : _) → slots-empty-table.Learnt κs tt r e → r ≡ emptyTable
+pub empty-table-starts : (r : List Slot) (κs : _) (e : _) → slots-empty-table.Learnt κs tt r e → r ≡ empty_table
 empty-table-starts r κs e ensures = ensures
 
 module _ (table : List Slot) where
   pub load-steps : (number : ℕ) (a : Asked) (key : List ℕ) (r : Changed) (κs : _) (e : _)
-      → slots-load.Learnt κs (table, (number, (a, (key, tt)))) r e → changing r ≡ step ourCard table (load number a key)
+      → slots-load.Learnt κs (table, (number, (a, (key, tt)))) r e → changing r ≡ step our_card table (load number a key)
   unfolding step
   load-steps number a key r κs e ensures = ap changing ensures
 
   pub move-steps : (from to asked : ℕ) (r : Changed) (κs : _) (e : _)
-      → slots-move-slot.Learnt κs (table, (from, (to, (asked, tt)))) r e → changing r ≡ step ourCard table (move from to asked)
+      → slots-move-slot.Learnt κs (table, (from, (to, (asked, tt)))) r e → changing r ≡ step our_card table (move from to asked)
   unfolding step
   move-steps from to asked r κs e ensures = ap changing ensures
 
   pub clear-steps : (number : ℕ) (r : Changed) (κs : _) (e : _)
-      → slots-clear.Learnt κs (table, (number, tt)) r e → changing r ≡ step ourCard table (clear number)
+      → slots-clear.Learnt κs (table, (number, tt)) r e → changing r ≡ step our_card table (clear number)
   unfolding step
   clear-steps number r κs e ensures = ap changing ensures
 
   pub read-steps : (number : ℕ) (r : Shown) (κs : _) (e : _)
-      → slots_read.Learnt κs (table, (number, tt)) r e → reading table r ≡ step ourCard table (read number)
+      → slots_read.Learnt κs (table, (number, tt)) r e → reading table r ≡ step our_card table (read number)
   unfolding step
   read-steps number r κs e ensures = ap (reading table) ensures

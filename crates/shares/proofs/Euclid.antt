@@ -8,21 +8,21 @@ use native.Mathlib.Nat.{mod-lt, dvd_refl, dvd-zero, dvd-mod_iff}
 use native.Mathlib.Omega.{arith}
 use borrow.Author.Tests.{eq-eqb, ne_eqb}
 use Rattle.laws.proofs.Cases.{eq-or-ne}
-use Rattle.shares.specs.Share.{gcdWithin, gcd}
+use Rattle.shares.specs.Share.{gcd_within, gcd}
 
 -- one step, within any bound
 
 module _ (k a b : ℕ) where
-  within_none : b ≡ 0 → gcdWithin k a b ≡ a
-  unfolding gcdWithin
+  within_none : b ≡ 0 → gcd_within k a b ≡ a
+  unfolding gcd_within
   within_none z = go k
     where
-      go : (k : ℕ) → gcdWithin k a b ≡ a
+      go : (k : ℕ) → gcd_within k a b ≡ a
       go zero = refl
       go (suc k) = rw (eq-eqb b 0 z)
 
-  within-next : (b ≡ 0 → ⊥) → gcdWithin (suc k) a b ≡ gcdWithin k b (a % b)
-  unfolding gcdWithin
+  within-next : (b ≡ 0 → ⊥) → gcd_within (suc k) a b ≡ gcd_within k b (a % b)
+  unfolding gcd_within
   within-next n = rw (ne_eqb b 0 n)
 
 pub rest-less : (a b : ℕ) → (b ≡ 0 → ⊥) → a % b < b
@@ -33,7 +33,7 @@ rest-less a b n = mod-lt a (⊎_elim (λ z. absurd (n z)) (λ (_ : b ≡ 0 → �
     positive (suc b) n = omega arith
 
 -- any two bounds that suffice give the same divisor
-enough : (k j a b : ℕ) → b ≤ k → b ≤ j → gcdWithin k a b ≡ gcdWithin j a b
+enough : (k j a b : ℕ) → b ≤ k → b ≤ j → gcd_within k a b ≡ gcd_within j a b
 enough zero j a b h g = let z : b ≡ 0 = omega arith in within_none zero a b z ∙ sym (within_none j a b z)
 enough (suc k) zero a b h g = let z : b ≡ 0 = omega arith in within_none (suc k) a b z ∙ sym (within_none zero a b z)
 enough (suc k) (suc j) a b h g =
@@ -56,21 +56,21 @@ gcd-next a b n =
 
 -- it divides both
 
-over : (k a b : ℕ) → b ≡ 0 → (gcdWithin k a b ∣ a) × (gcdWithin k a b ∣ b)
+over : (k a b : ℕ) → b ≡ 0 → (gcd_within k a b ∣ a) × (gcd_within k a b ∣ b)
 over k a b z = rw (within_none k a b z) (dvd_refl a, subst (λ (x : ℕ). a ∣ x) (sym z) (dvd-zero a))
 
-both : (k a b : ℕ) → b ≤ k → (gcdWithin k a b ∣ a) × (gcdWithin k a b ∣ b)
+both : (k a b : ℕ) → b ≤ k → (gcd_within k a b ∣ a) × (gcd_within k a b ∣ b)
 both zero a b h = over zero a b (omega arith)
 both (suc k) a b h =
     ⊎_elim (over (suc k) a b)
     (λ n.
     let l = rest-less a b n in
     let r = both k b (a % b) (omega arith) in
-    rw (within-next k a b n) ((dvd-mod_iff (gcdWithin k b (a % b)) r.0).0 r.1, r.0))
+    rw (within-next k a b n) ((dvd-mod_iff (gcd_within k b (a % b)) r.0).0 r.1, r.0))
     (eq-or-ne b 0)
 
 -- and every number that divides both divides it
-greatest : (k a b d : ℕ) → b ≤ k → d ∣ a → d ∣ b → d ∣ gcdWithin k a b
+greatest : (k a b d : ℕ) → b ≤ k → d ∣ a → d ∣ b → d ∣ gcd_within k a b
 greatest zero a b d h p q = let z : b ≡ 0 = omega arith in rw (within_none zero a b z) p
 greatest (suc k) a b d h p q =
     ⊎_elim (λ z. rw (within_none (suc k) a b z) p)

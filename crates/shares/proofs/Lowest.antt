@@ -7,7 +7,7 @@ use native.Mathlib.Nat.{mul_assoc, mul_comm, mul_right_comm, pos_of_dvd_of_pos, 
 use native.Mathlib.Omega.{arith}
 use borrow.Author.Tests.{eq-eqb, ne_eqb}
 use Rattle.laws.proofs.Cases.{eq-or-ne}
-use Rattle.shares.specs.Share.{gcd, fractionOf, share_of, LowestShare}
+use Rattle.shares.specs.Share.{gcd, fraction_of, share_of, LowestShare}
 use Rattle.shares.proofs.Euclid.{gcd-divides, gcd-greatest}
 
 pub positive_of : (n : ℕ) → (n ≡ 0 → ⊥) → 0 < n

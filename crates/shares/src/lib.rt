@@ -1,6 +1,6 @@
 // Shares as fractions in lowest terms.
 ghost use Rattle.std.specs.Prelude.{◌≡◌};
-ghost use Rattle.shares.specs.Share.{gcd, fractionOf, share_of};
+ghost use Rattle.shares.specs.Share.{gcd, fraction_of, share_of};
 
 // A fraction.
 #[derive(Drop)]
@@ -24,7 +24,7 @@ fn gcd(a: u64, b: u64) -> u64
 }
 
 fn fraction(top: u64, bottom: u64) -> Share
-    ensures { result ≡ fractionOf top bottom }
+    ensures { result ≡ fraction_of top bottom }
 {
     Share { top, bottom }
 }

@@ -10,12 +10,12 @@ use lib.ListN.{length, drop, length-append}
 use lib.Seq.{sets-eq}
 use borrow.Author.Tests.{le-ltb}
 use Rattle.laws.specs.Choice.{pick}
-use Rattle.writing.specs.Writing.{Put, atFront}
-use Rattle.sheet.specs.Sheet.{listing, room, listedLength, listedBuffer}
+use Rattle.writing.specs.Writing.{Put, at_front}
+use Rattle.sheet.specs.Sheet.{listing, room, listed_length, listed_buffer}
 
 pub listed : (sheet b : List ℕ) → room ≤ length b → {b' : List ℕ} {n : ℕ} → n ≤ room → Put b 0 (listing sheet) b' n
-    → (n ≡ listedLength sheet b) × (b' ≡ listedBuffer sheet b)
-unfolding listedLength listedBuffer
+    → (n ≡ listed_length sheet b) × (b' ≡ listed_buffer sheet b)
+unfolding listed_length listed_buffer
 listed sheet b h short p =
     let t = listing sheet in
     rw (le-ltb (length b) room h) (
@@ -24,12 +24,12 @@ listed sheet b h short p =
     )
 
 -- what the call answers lies within the buffer
-pub listed-within : (sheet b : List ℕ) {b' : List ℕ} {n : ℕ} → (n ≡ listedLength sheet b) × (b' ≡ listedBuffer sheet b) → n ≤ length b'
-unfolding listedLength listedBuffer
+pub listed-within : (sheet b : List ℕ) {b' : List ℕ} {n : ℕ} → (n ≡ listed_length sheet b) × (b' ≡ listed_buffer sheet b) → n ≤ length b'
+unfolding listed_length listed_buffer
 listed-within sheet b e =
     let h = go (ltb (length b) room) in
     omega (arith, e.0, ap length e.1)
   where
-    go : (t : Bool) → pick t 0 (length (listing sheet)) ≤ length (pick t b (atFront (listing sheet) b))
+    go : (t : Bool) → pick t 0 (length (listing sheet)) ≤ length (pick t b (at_front (listing sheet) b))
     go true = omega arith
     go false = omega (arith, length-append (listing sheet) (drop (length (listing sheet)) b))

@@ -2,7 +2,7 @@
 mod listing;
 
 ghost use Rattle.std.specs.Prelude.{◌≡◌};
-ghost use Rattle.sheet.specs.Sheet.{listedLength, listedBuffer};
+ghost use Rattle.sheet.specs.Sheet.{listed_length, listed_buffer};
 
 use listing::put_loaded;
 use loading::load_all;
@@ -12,8 +12,8 @@ pub const ROOM: usize = 2560;
 
 // The listing of a sheet, at the front of the buffer, and its length. The bytes after it stay. A smaller buffer stays as it is, with length 0.
 pub fn list_sheet(sheet: &[u8], buffer: &mut [u8]) -> usize
-    ensures { (result ≡ listedLength sheet.now buffer.old)
-        × (buffer.new ≡ listedBuffer sheet.now buffer.old) }
+    ensures { (result ≡ listed_length sheet.now buffer.old)
+        × (buffer.new ≡ listed_buffer sheet.now buffer.old) }
 {
     if buffer.len() < ROOM {
         return 0;

@@ -1,7 +1,7 @@
 // Writers of a listing's parts. Each puts a text into the buffer from a place on, and answers with the place at which it ends.
 ghost use Rattle.std.specs.Prelude.{◌≡◌, ◌≤◌, length};
 ghost use Rattle.writing.specs.Writing.{Put};
-ghost use Rattle.sheet.specs.Sheet.{filledCount, tableText, refusalText, loadedText, room};
+ghost use Rattle.sheet.specs.Sheet.{filled_count, table_text, refusal_text, loaded_text, room};
 
 use loading::Loaded;
 use slot_lines::put_slots;
@@ -9,7 +9,7 @@ use slots::{Slot, is_filled};
 use writing::{put_item, put_line};
 
 fn count_filled(table: [Slot; 32]) -> u64
-    ensures { result ≡ filledCount table }
+    ensures { result ≡ filled_count table }
 {
     let mut count: u64 = 0;
     let mut i: usize = 0;
@@ -25,7 +25,7 @@ fn count_filled(table: [Slot; 32]) -> u64
 
 fn put_table(buffer: &mut [u8], table: [Slot; 32]) -> usize
     requires { room ≤ length buffer.old }
-    ensures { (result ≤ room) × Put buffer.old 0 (tableText table) buffer.new result }
+    ensures { (result ≤ room) × Put buffer.old 0 (table_text table) buffer.new result }
 {
     let count = count_filled(table);
     let slots = put_line(buffer, 0, b"table=", 32);
@@ -35,7 +35,7 @@ fn put_table(buffer: &mut [u8], table: [Slot; 32]) -> usize
 
 fn put_refusal(buffer: &mut [u8], refusal: u8, position: usize, line: usize, column: usize) -> usize
     requires { room ≤ length buffer.old }
-    ensures { (result ≤ room) × Put buffer.old 0 (refusalText refusal position line column) buffer.new result }
+    ensures { (result ≤ room) × Put buffer.old 0 (refusal_text refusal position line column) buffer.new result }
 {
     let record = put_item(buffer, 0, b"refused=", refusal as u64);
     let place = put_item(buffer, record, b" record=", position as u64);
@@ -46,7 +46,7 @@ fn put_refusal(buffer: &mut [u8], refusal: u8, position: usize, line: usize, col
 // The table, or only the refusal.
 pub fn put_loaded(buffer: &mut [u8], loaded: Loaded) -> usize
     requires { room ≤ length buffer.old }
-    ensures { (result ≤ room) × Put buffer.old 0 (loadedText loaded) buffer.new result }
+    ensures { (result ≤ room) × Put buffer.old 0 (loaded_text loaded) buffer.new result }
 {
     if loaded.refusal != refusals::DONE {
         return put_refusal(

@@ -2,9 +2,9 @@
 ghost use Rattle.std.specs.Prelude.{◌≡◌, ◌+◌, ◌<◌, ◌≤◌, eqb, length, drop};
 ghost use Rattle.laws.specs.Choice.{pick};
 ghost use Rattle.writing.specs.Text.{lf};
-ghost use Rattle.lines.specs.Line.{up_to, pieceLength};
-ghost use Rattle.line_names.specs.Names.{hasName};
-ghost use Rattle.sheet_faults.specs.Sheet.{lines_of, timesNamed, isFormTwo, valueNamed, anyFault, inOrderFrom, namesRight, sheetBad};
+ghost use Rattle.lines.specs.Line.{up_to, piece_length};
+ghost use Rattle.line_names.specs.Names.{has_name};
+ghost use Rattle.sheet_faults.specs.Sheet.{lines_of, times_named, is_form_two, value_named, any_fault, in_order_from, names_right, sheet_bad};
 
 use line_faults::{Fault, has_fault};
 use line_names::{has_name, number_in};
@@ -29,7 +29,7 @@ fn line_at(text: &[u8], at: usize) -> &[u8]
 // Where the line after it begins.
 fn next_line(text: &[u8], at: usize) -> usize
     requires { at < length text.now }
-    ensures { (result ≡ at + pieceLength lf (drop at text.now)) × (at < result) × (result ≤ length text.now) }
+    ensures { (result ≡ at + piece_length lf (drop at text.now)) × (at < result) × (result ≤ length text.now) }
 {
     let s = rest(text, at);
     at + piece_length(s, LF)
@@ -46,7 +46,7 @@ fn one_if(test: bool) -> usize
 
 // How many lines have the name of number k.
 fn times_named(text: &[u8], k: usize) -> usize
-    ensures { result ≡ timesNamed k (lines_of text.now) }
+    ensures { result ≡ times_named k (lines_of text.now) }
 {
     let mut times = 0;
     let mut at = 0;
@@ -61,14 +61,14 @@ fn times_named(text: &[u8], k: usize) -> usize
 
 // A `form` line, good or bad, means form 2.
 pub fn is_form_two(text: &[u8]) -> bool
-    ensures { result ≡ isFormTwo (lines_of text.now) }
+    ensures { result ≡ is_form_two (lines_of text.now) }
 {
     0 < times_named(text, 0)
 }
 
 // The value of the first line of a name, or nothing.
 pub fn value_named(text: &[u8], k: usize) -> &[u8]
-    ensures { result.now ≡ valueNamed k (lines_of text.now) }
+    ensures { result.now ≡ value_named k (lines_of text.now) }
 {
     let mut at = 0;
     while at < text.len() {
@@ -84,7 +84,7 @@ pub fn value_named(text: &[u8], k: usize) -> &[u8]
 
 // Does some line have a fault?
 pub fn any_fault(text: &[u8], fault: Fault) -> bool
-    ensures { result ≡ anyFault fault (lines_of text.now) }
+    ensures { result ≡ any_fault fault (lines_of text.now) }
 {
     let mut at = 0;
     while at < text.len() {
@@ -100,7 +100,7 @@ pub fn any_fault(text: &[u8], fault: Fault) -> bool
 
 // Do the names stand in the form's order?
 pub fn in_order(text: &[u8]) -> bool
-    ensures { result ≡ inOrderFrom 0 (lines_of text.now) }
+    ensures { result ≡ in_order_from 0 (lines_of text.now) }
 {
     let mut least = 0;
     let mut at = 0;
@@ -118,14 +118,14 @@ pub fn in_order(text: &[u8]) -> bool
 
 // Does a name that the form has stand in one line, or any other in none?
 fn is_named_right(text: &[u8], two: bool, k: usize) -> bool
-    ensures { result ≡ eqb (timesNamed k (lines_of text.now)) (pick (hasName two k) 1 0) }
+    ensures { result ≡ eqb (times_named k (lines_of text.now)) (pick (has_name two k) 1 0) }
 {
     times_named(text, k) == one_if(has_name(two, k))
 }
 
 // Is no name missing, doubled, or unknown for the form?
 fn names_right(text: &[u8]) -> bool
-    ensures { result ≡ namesRight (lines_of text.now) }
+    ensures { result ≡ names_right (lines_of text.now) }
 {
     let two = is_form_two(text);
     let mut k = 0;
@@ -140,7 +140,7 @@ fn names_right(text: &[u8]) -> bool
 
 // Is a text refused with 25?
 pub fn sheet_bad(text: &[u8]) -> bool
-    ensures { result ≡ sheetBad text.now }
+    ensures { result ≡ sheet_bad text.now }
 {
     if MOST < text.len() {
         return true;

@@ -2,8 +2,8 @@
 ghost use Rattle.std.specs.Prelude.{◌≡◌, eqb};
 ghost use Rattle.refusals.specs.Numbers.{done};
 ghost use Rattle.slots.specs.Slots.{keyless};
-ghost use Rattle.slot_calls.specs.Calls.{loadRefusalOf, moveRefusalOf, slotRefusalOf, clearRefusalOf};
-ghost use Rattle.slot_calls.specs.Seen.{keySlot};
+ghost use Rattle.slot_calls.specs.Calls.{load_refusal_of, move_refusal_of, slot_refusal_of, clear_refusal_of};
+ghost use Rattle.slot_calls.specs.Seen.{key_slot};
 
 use fields::{Asked, Fields};
 use refusals::refuse;
@@ -39,7 +39,7 @@ pub struct Put {
 
 // Refusals 16, 7, 1, 21, 10, 11, 20, 9, in this order.
 pub fn load_refusal(bad: bool, f: Fields, number: u64, asked: Asked) -> u8
-    ensures { result ≡ loadRefusalOf bad (keyless f) number asked }
+    ensures { result ≡ load_refusal_of bad (keyless f) number asked }
 {
     let out_of_service = fields::is_out_of_service(asked.algorithm);
     let rights = fields::rights_refusal(asked);
@@ -72,7 +72,7 @@ pub fn load_refusal(bad: bool, f: Fields, number: u64, asked: Asked) -> u8
 
 // Refusals 16, 7 for either number, 8, 9, 10, 14, in this order.
 pub fn move_refusal(bad: bool, f: Fields, target: Fields, from: u64, to: u64, asked: u64) -> u8
-    ensures { result ≡ moveRefusalOf bad (keyless f) (keyless target) from to asked }
+    ensures { result ≡ move_refusal_of bad (keyless f) (keyless target) from to asked }
 {
     refuse(
         bad,
@@ -107,7 +107,7 @@ pub fn move_refusal(bad: bool, f: Fields, target: Fields, from: u64, to: u64, as
 
 // Refusals 7, 8, in this order.
 pub fn slot_refusal(f: Fields, number: u64) -> u8
-    ensures { result ≡ slotRefusalOf (keyless f) number }
+    ensures { result ≡ slot_refusal_of (keyless f) number }
 {
     refuse(
         !fields::is_slot_number(number),
@@ -118,14 +118,14 @@ pub fn slot_refusal(f: Fields, number: u64) -> u8
 
 // Refusals 16, 7, 8, in this order.
 pub fn clear_refusal(bad: bool, f: Fields, number: u64) -> u8
-    ensures { result ≡ clearRefusalOf bad (keyless f) number }
+    ensures { result ≡ clear_refusal_of bad (keyless f) number }
 {
     refuse(bad, refusals::TABLE, slot_refusal(f, number))
 }
 
 // Whose key a call with this refusal reads: the slot's of its number, and no slot's after a refusal.
 pub fn key_slot(refusal: u8, number: u64) -> u64
-    ensures { result ≡ keySlot (eqb refusal done) number }
+    ensures { result ≡ key_slot (eqb refusal done) number }
 {
     if refusal == refusals::DONE {
         number

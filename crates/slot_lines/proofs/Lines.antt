@@ -8,25 +8,25 @@ use native.Mathlib.Omega.{arith}
 use lib.ListN.{length, get_or, drop, drop_of_length-le}
 use lib.Seq.{drop-cons}
 use Rattle.algorithms.specs.Algorithm.{name_of}
-use Rattle.fields.specs.Fields.{allInRange, asked_of}
+use Rattle.fields.specs.Fields.{all_in_range, asked_of}
 use Rattle.fields.specs.declared.Fields.{Fields}
 use Rattle.fields.proofs.Ranges.{side-high, place-high, mcc-high, mnc-high}
 use Rattle.slots.specs.declared.Slot.{Slot}
-use Rattle.slots.specs.Slots.{nil, isFilled}
-use Rattle.writing.specs.Text.{digits, lineText, item}
-use Rattle.record_text.specs.Text.{useWord}
+use Rattle.slots.specs.Slots.{nil, is_filled}
+use Rattle.writing.specs.Text.{digits, line_text, item}
+use Rattle.record_text.specs.Text.{use_word}
 use Rattle.writing.proofs.Digits.{length-one, digits-fit, item-length, line-length}
 use Rattle.record_text.proofs.Lengths.{name-length, use-length}
-use Rattle.slot_lines.specs.Lines.{slotLine, slotText, slotLines, longestLine}
+use Rattle.slot_lines.specs.Lines.{slot_line, slot_text, slot_lines, longest_line}
 
-pub line-short : (number : ℕ) (f : Fields) → number ≤ 32 → f.version ≤ 65535 → allInRange (asked_of f) ≡ true → length (slotLine number f) ≤ longestLine
-unfolding slotLine
+pub line-short : (number : ℕ) (f : Fields) → number ≤ 32 → f.version ≤ 65535 → all_in_range (asked_of f) ≡ true → length (slot_line number f) ≤ longest_line
+unfolding slot_line
 line-short number f n v r =
-    let eighth = lineText " mnc=" (digits f.mnc) in
+    let eighth = line_text " mnc=" (digits f.mnc) in
     let seventh = item " mcc=" (digits f.mcc) ++ eighth in
     let sixth = item " place=" (digits f.place) ++ seventh in
     let fifth = item " side=" (digits f.side) ++ sixth in
-    let fourth = item " use=" (useWord f.usage) ++ fifth in
+    let fourth = item " use=" (use_word f.usage) ++ fifth in
     let third = item " alg=" (name_of f.algorithm) ++ fourth in
     let second = item " version=" (digits f.version) ++ third in
     omega (
@@ -34,7 +34,7 @@ line-short number f n v r =
       item-length "number=" (digits number) second,
       item-length " version=" (digits f.version) third,
       item-length " alg=" (name_of f.algorithm) fourth,
-      item-length " use=" (useWord f.usage) fifth,
+      item-length " use=" (use_word f.usage) fifth,
       item-length " side=" (digits f.side) sixth,
       item-length " place=" (digits f.place) seventh,
       item-length " mcc=" (digits f.mcc) eighth,
@@ -52,19 +52,19 @@ line-short number f n v r =
 -- the text of a slot that is filled, and of one that is not
 
 module _ (number : ℕ) (slot : Slot) where
-  pub filled-text : isFilled slot ≡ true → slotText number slot ≡ slotLine number slot.fields
+  pub filled-text : is_filled slot ≡ true → slot_text number slot ≡ slot_line number slot.fields
   filled-text e = rw e
 
-  pub empty-text : isFilled slot ≡ false → slotText number slot ≡ []
+  pub empty-text : is_filled slot ≡ false → slot_text number slot ≡ []
   empty-text e = rw e
 
 -- of a table, i slots are passed
 
 module _ (table : List Slot) (i : ℕ) where
-  pub lines_next : i < length table → slotLines (i + 1) (drop i table) ≡ slotText (i + 1) (get_or table i nil) ++ slotLines (i + 1 + 1) (drop (i + 1) table)
-  unfolding slotLines
+  pub lines_next : i < length table → slot_lines (i + 1) (drop i table) ≡ slot_text (i + 1) (get_or table i nil) ++ slot_lines (i + 1 + 1) (drop (i + 1) table)
+  unfolding slot_lines
   lines_next h = rw (add-one i, drop-cons table i nil h)
 
-  pub lines_none : length table ≤ i → slotLines (i + 1) (drop i table) ≡ []
-  unfolding slotLines
+  pub lines_none : length table ≤ i → slot_lines (i + 1) (drop i table) ≡ []
+  unfolding slot_lines
   lines_none h = rw (drop_of_length-le table h)

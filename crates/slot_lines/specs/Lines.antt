@@ -4,36 +4,36 @@ use Rattle.laws.specs.Choice.{pick}
 use Rattle.algorithms.specs.Algorithm.{name_of}
 use Rattle.fields.specs.declared.Fields.{Fields}
 use Rattle.slots.specs.declared.Slot.{Slot}
-use Rattle.slots.specs.Slots.{isFilled}
-use Rattle.writing.specs.Text.{digits, item, lineText}
-use Rattle.record_text.specs.Text.{useWord}
+use Rattle.slots.specs.Slots.{is_filled}
+use Rattle.writing.specs.Text.{digits, item, line_text}
+use Rattle.record_text.specs.Text.{use_word}
 
 -- the codes
-abbrev pub codesText : Fields → List ℕ
-codesText f =
+abbrev pub codes_text : Fields → List ℕ
+codes_text f =
     item " side=" (digits f.side)
     ++ (item " place=" (digits f.place)
     ++ (item " mcc=" (digits f.mcc)
-    ++ lineText " mnc=" (digits f.mnc)))
+    ++ line_text " mnc=" (digits f.mnc)))
 
 -- all fields but the key
-unfoldable pub slotLine : ℕ → Fields → List ℕ
-slotLine number f =
+unfoldable pub slot_line : ℕ → Fields → List ℕ
+slot_line number f =
     item "number=" (digits number)
     ++ (item " version=" (digits f.version)
     ++ (item " alg=" (name_of f.algorithm)
-    ++ (item " use=" (useWord f.usage)
-    ++ codesText f)))
+    ++ (item " use=" (use_word f.usage)
+    ++ codes_text f)))
 
 -- one line per filled slot
-abbrev pub slotText : ℕ → Slot → List ℕ
-slotText number slot = pick (isFilled slot) (slotLine number slot.fields) []
+abbrev pub slot_text : ℕ → Slot → List ℕ
+slot_text number slot = pick (is_filled slot) (slot_line number slot.fields) []
 
 -- in number order, from the number of the first slot on
-unfoldable pub slotLines : ℕ → List Slot → List ℕ
-slotLines number [] = []
-slotLines number (slot ∷ table) = slotText number slot ++ slotLines (number + 1) table
+unfoldable pub slot_lines : ℕ → List Slot → List ℕ
+slot_lines number [] = []
+slot_lines number (slot ∷ table) = slot_text number slot ++ slot_lines (number + 1) table
 
 -- no line of a slot is longer
-abbrev pub longestLine : ℕ
-longestLine = 77
+abbrev pub longest_line : ℕ
+longest_line = 77

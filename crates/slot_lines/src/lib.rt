@@ -1,8 +1,8 @@
 // The lines of a listing's filled slots. Each writer puts a text into the buffer from a place on, and answers with the place at which it ends.
 ghost use Rattle.std.specs.Prelude.{true, ◌≡◌, ◌+◌, ◌*◌, ◌≤◌, length};
-ghost use Rattle.fields.specs.Fields.{allInRange, asked_of};
+ghost use Rattle.fields.specs.Fields.{all_in_range, asked_of};
 ghost use Rattle.writing.specs.Writing.{Room, Put};
-ghost use Rattle.slot_lines.specs.Lines.{codesText, slotLine, slotText, slotLines, longestLine};
+ghost use Rattle.slot_lines.specs.Lines.{codes_text, slot_line, slot_text, slot_lines, longest_line};
 
 use fields::Fields;
 use record_text::use_word;
@@ -11,8 +11,8 @@ use writing::{put_item, put_line, put_word_item};
 
 // The codes, which end a line.
 fn put_codes(buffer: &mut [u8], at: usize, f: Fields) -> usize
-    requires { Room buffer.old at (codesText f) }
-    ensures { Put buffer.old at (codesText f) buffer.new result }
+    requires { Room buffer.old at (codes_text f) }
+    ensures { Put buffer.old at (codes_text f) buffer.new result }
 {
     let place = put_item(buffer, at, b" side=", f.side as u64);
     let mcc = put_item(buffer, place, b" place=", f.place as u64);
@@ -22,8 +22,8 @@ fn put_codes(buffer: &mut [u8], at: usize, f: Fields) -> usize
 
 // The line of a filled slot, for a buffer that has room for the longest.
 fn put_slot_line(buffer: &mut [u8], at: usize, number: u64, f: Fields) -> usize
-    requires { (at + longestLine ≤ length buffer.old) × (number ≤ 32) × (allInRange (asked_of f) ≡ true) }
-    ensures { (result ≤ at + longestLine) × Put buffer.old at (slotLine number f) buffer.new result }
+    requires { (at + longest_line ≤ length buffer.old) × (number ≤ 32) × (all_in_range (asked_of f) ≡ true) }
+    ensures { (result ≤ at + longest_line) × Put buffer.old at (slot_line number f) buffer.new result }
 {
     let value = f.version as u64;
     let version = put_item(buffer, at, b"number=", number);
@@ -39,8 +39,8 @@ fn put_slot_line(buffer: &mut [u8], at: usize, number: u64, f: Fields) -> usize
 }
 
 fn put_slot(buffer: &mut [u8], at: usize, number: u64, slot: Slot) -> usize
-    requires { (at + longestLine ≤ length buffer.old) × (number ≤ 32) }
-    ensures { (result ≤ at + longestLine) × Put buffer.old at (slotText number slot) buffer.new result }
+    requires { (at + longest_line ≤ length buffer.old) × (number ≤ 32) }
+    ensures { (result ≤ at + longest_line) × Put buffer.old at (slot_text number slot) buffer.new result }
 {
     if is_filled(slot) {
         let fields = slot.fields;
@@ -51,8 +51,8 @@ fn put_slot(buffer: &mut [u8], at: usize, number: u64, slot: Slot) -> usize
 
 // The lines of the filled slots, in number order.
 pub fn put_slots(buffer: &mut [u8], at: usize, table: [Slot; 32]) -> usize
-    requires { at + 32 * longestLine ≤ length buffer.old }
-    ensures { (result ≤ at + 32 * longestLine) × Put buffer.old at (slotLines 1 table) buffer.new result }
+    requires { at + 32 * longest_line ≤ length buffer.old }
+    ensures { (result ≤ at + 32 * longest_line) × Put buffer.old at (slot_lines 1 table) buffer.new result }
 {
     let mut end = at;
     let mut i: usize = 0;

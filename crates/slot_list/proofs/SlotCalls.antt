@@ -25,7 +25,7 @@ use denote.Slice.{shr_slice_copy}
 use Rattle.fields.specs.declared.Fields.{Fields}
 use Rattle.slots.specs.declared.Slot.{Slot}
 use Rattle.slot_calls.specs.declared.Put.{Put}
-use Rattle.slot_list.specs.List.{isNoTable, fieldsIn, slotIn, put_in}
+use Rattle.slot_list.specs.List.{is_no_table, fields_in, slot_in, put_in}
 use Rattle.walks.proofs.CallRules.{Of, calls-fn}
 use Rattle.walks.proofs.Shared.{LentShared, lends-read, read_back}
 use Rattle.slot_list.proofs.LentOn.{Meanwhile, lends-on, has-back}
@@ -127,43 +127,43 @@ module _ {M : Type 1} {𝓤 : Ura M} {𝓛 : Logic 𝓤} {K : Type 0} {E : Env �
   module _ (t : K) {Γ : List (Item 𝓤)} (mem : Memory → SProp 𝓤) (run : Routine → Fun 𝓤) (b o : ℕ) (ys : List Slot) (κ : Lft) (q : Share) (γ : GName) where
     pub asks-table : FmC 𝓤 H 𝓛.laws C → Triple 𝓤 (C #is-no-table) (IsNoTable 𝓛 mem run)
         → Opds K 𝓛 (raw ((IsNoTable 𝓛 mem run).pre (to-ask 𝓛 mem run b o ys κ q γ)) ∷ ‵ (Read b o ys κ γ) ∷ Γ) E xs (slice b o ys ∷ [])
-        → ((v : Val) → Is bool (isNoTable ys) (v ∷ []) → Seq K 𝓛 (‵ (flft κ q) ∷ ‵ (Read b o ys κ γ) ∷ Γ) (lands C Λ E d v rest p))
+        → ((v : Val) → Is bool (is_no_table ys) (v ∷ []) → Seq K 𝓛 (‵ (flft κ q) ∷ ‵ (Read b o ys κ γ) ∷ Γ) (lands C Λ E d v rest p))
         → Seq K 𝓛 (‵ (Read b o ys κ γ) ∷ ‵ (flft κ q) ∷ Γ) (runs C Λ E (seq (call #is-no-table xs d) rest) p)
     asks-table fm met =
-        looks t b o ys κ q γ fm is-no-table.ended (is-no-table.clauses 𝓛 mem run) met (to-ask 𝓛 mem run b o ys κ q γ) (goes-ask 𝓛 mem run b o ys κ q γ) (id⊢ 𝓤 _) (isNoTable ys) (λ r ws. id⊢ 𝓤 _)
+        looks t b o ys κ q γ fm is-no-table.ended (is-no-table.clauses 𝓛 mem run) met (to-ask 𝓛 mem run b o ys κ q γ) (goes-ask 𝓛 mem run b o ys κ q γ) (id⊢ 𝓤 _) (is_no_table ys) (λ r ws. id⊢ 𝓤 _)
 
     pub takes-fields : (n : ℕ) → n < 2 ^ 64 → FmC 𝓤 H 𝓛.laws C → Triple 𝓤 (C #fields-in) (FieldsIn 𝓛 mem run)
         → Opds K 𝓛 (raw ((FieldsIn 𝓛 mem run).pre (to_fields 𝓛 mem run b o ys κ q γ n)) ∷ ‵ (Read b o ys κ γ) ∷ Γ) E xs (slice b o ys ∷ vint w64 n ∷ [])
-        → ((v : Val) → Is FieldsRow (fieldsIn ys n) (v ∷ []) → Seq K 𝓛 (‵ (flft κ q) ∷ ‵ (Read b o ys κ γ) ∷ Γ) (lands C Λ E d v rest p))
+        → ((v : Val) → Is FieldsRow (fields_in ys n) (v ∷ []) → Seq K 𝓛 (‵ (flft κ q) ∷ ‵ (Read b o ys κ γ) ∷ Γ) (lands C Λ E d v rest p))
         → Seq K 𝓛 (‵ (Read b o ys κ γ) ∷ ‵ (flft κ q) ∷ Γ) (runs C Λ E (seq (call #fields-in xs d) rest) p)
     takes-fields n fits fm met =
-        looks t b o ys κ q γ fm fields_in.ended (fields_in.clauses 𝓛 mem run) met (to_fields 𝓛 mem run b o ys κ q γ n) (goes-read 𝓛 mem run b o ys κ q γ n fits) (id⊢ 𝓤 _) (fieldsIn ys n) (λ r ws. id⊢ 𝓤 _)
+        looks t b o ys κ q γ fm fields_in.ended (fields_in.clauses 𝓛 mem run) met (to_fields 𝓛 mem run b o ys κ q γ n) (goes-read 𝓛 mem run b o ys κ q γ n fits) (id⊢ 𝓤 _) (fields_in ys n) (λ r ws. id⊢ 𝓤 _)
 
     pub takes-slot : (n : ℕ) → n < 2 ^ 64 → FmC 𝓤 H 𝓛.laws C → Triple 𝓤 (C #slot-in) (SlotIn 𝓛 mem run)
         → Opds K 𝓛 (raw ((SlotIn 𝓛 mem run).pre (to-slot 𝓛 mem run b o ys κ q γ n)) ∷ ‵ (Read b o ys κ γ) ∷ Γ) E xs (slice b o ys ∷ vint w64 n ∷ [])
-        → ((v : Val) → Is R (slotIn ys n) (v ∷ []) → Seq K 𝓛 (‵ (flft κ q) ∷ ‵ (Read b o ys κ γ) ∷ Γ) (lands C Λ E d v rest p))
+        → ((v : Val) → Is R (slot_in ys n) (v ∷ []) → Seq K 𝓛 (‵ (flft κ q) ∷ ‵ (Read b o ys κ γ) ∷ Γ) (lands C Λ E d v rest p))
         → Seq K 𝓛 (‵ (Read b o ys κ γ) ∷ ‵ (flft κ q) ∷ Γ) (runs C Λ E (seq (call #slot-in xs d) rest) p)
     takes-slot n fits fm met =
-        looks t b o ys κ q γ fm slot-in.ended (slot-in.clauses 𝓛 mem run) met (to-slot 𝓛 mem run b o ys κ q γ n) (goes-read 𝓛 mem run b o ys κ q γ n fits) (id⊢ 𝓤 _) (slotIn ys n) (λ r ws. id⊢ 𝓤 _)
+        looks t b o ys κ q γ fm slot-in.ended (slot-in.clauses 𝓛 mem run) met (to-slot 𝓛 mem run b o ys κ q γ n) (goes-read 𝓛 mem run b o ys κ q γ n fits) (id⊢ 𝓤 _) (slot_in ys n) (λ r ws. id⊢ 𝓤 _)
 
   module _ (t : K) {Γ : List (Item 𝓤)} (mem : Memory → SProp 𝓤) (run : Routine → Fun 𝓤) (b o : ℕ) (ys : List Slot) (κ : Lft) (q : Share) (γ : GName) (room : Room R (length ys)) where
     pub lends-ask : FmC 𝓤 H 𝓛.laws C → Triple 𝓤 (C #is-no-table) (IsNoTable 𝓛 mem run)
         → ((α : ℕ) (δ : GName) → Opds K 𝓛 (raw ((IsNoTable 𝓛 mem run).pre (to-ask 𝓛 mem run b o ys (α ∷ []) full_share δ)) ∷ ‵ (Read b o ys (α ∷ []) δ) ∷ ‵ (LentShared R κ (α ∷ []) q γ b o ys) ∷ Γ) E xs (slice b o ys ∷ []))
-        → ((v : Val) → Is bool (isNoTable ys) (v ∷ []) → Seq K 𝓛 (‵ (Own b o ys κ γ) ∷ ‵ (flft κ q) ∷ Γ) (lands C Λ E d v rest p))
+        → ((v : Val) → Is bool (is_no_table ys) (v ∷ []) → Seq K 𝓛 (‵ (Own b o ys κ γ) ∷ ‵ (flft κ q) ∷ Γ) (lands C Λ E d v rest p))
         → Seq K 𝓛 (‵ (Own b o ys κ γ) ∷ ‵ (flft κ q) ∷ Γ) (runs C Λ E (seq (call #is-no-table xs d) rest) p)
     lends-ask fm met os k =
         lends-read R (named 0) κ q γ b o ys t tt (λ α δ. asks-table t mem run b o ys (α ∷ []) full_share δ fm met (os α δ) (λ v is. move t (1 ∷ []) $ drop t $ read_back R (named 0) κ q γ b o ys t tt α room (k v is)))
 
     pub lends-fields : (n : ℕ) → n < 2 ^ 64 → FmC 𝓤 H 𝓛.laws C → Triple 𝓤 (C #fields-in) (FieldsIn 𝓛 mem run)
         → ((α : ℕ) (δ : GName) → Opds K 𝓛 (raw ((FieldsIn 𝓛 mem run).pre (to_fields 𝓛 mem run b o ys (α ∷ []) full_share δ n)) ∷ ‵ (Read b o ys (α ∷ []) δ) ∷ ‵ (LentShared R κ (α ∷ []) q γ b o ys) ∷ Γ) E xs (slice b o ys ∷ vint w64 n ∷ []))
-        → ((v : Val) → Is FieldsRow (fieldsIn ys n) (v ∷ []) → Seq K 𝓛 (‵ (Own b o ys κ γ) ∷ ‵ (flft κ q) ∷ Γ) (lands C Λ E d v rest p))
+        → ((v : Val) → Is FieldsRow (fields_in ys n) (v ∷ []) → Seq K 𝓛 (‵ (Own b o ys κ γ) ∷ ‵ (flft κ q) ∷ Γ) (lands C Λ E d v rest p))
         → Seq K 𝓛 (‵ (Own b o ys κ γ) ∷ ‵ (flft κ q) ∷ Γ) (runs C Λ E (seq (call #fields-in xs d) rest) p)
     lends-fields n fits fm met os k =
         lends-read R (named 0) κ q γ b o ys t tt (λ α δ. takes-fields t mem run b o ys (α ∷ []) full_share δ n fits fm met (os α δ) (λ v is. move t (1 ∷ []) $ drop t $ read_back R (named 0) κ q γ b o ys t tt α room (k v is)))
 
     pub lends_slot : (n : ℕ) → n < 2 ^ 64 → FmC 𝓤 H 𝓛.laws C → Triple 𝓤 (C #slot-in) (SlotIn 𝓛 mem run)
         → ((α : ℕ) (δ : GName) → Opds K 𝓛 (raw ((SlotIn 𝓛 mem run).pre (to-slot 𝓛 mem run b o ys (α ∷ []) full_share δ n)) ∷ ‵ (Read b o ys (α ∷ []) δ) ∷ ‵ (LentShared R κ (α ∷ []) q γ b o ys) ∷ Γ) E xs (slice b o ys ∷ vint w64 n ∷ []))
-        → ((v : Val) → Is R (slotIn ys n) (v ∷ []) → Seq K 𝓛 (‵ (Own b o ys κ γ) ∷ ‵ (flft κ q) ∷ Γ) (lands C Λ E d v rest p))
+        → ((v : Val) → Is R (slot_in ys n) (v ∷ []) → Seq K 𝓛 (‵ (Own b o ys κ γ) ∷ ‵ (flft κ q) ∷ Γ) (lands C Λ E d v rest p))
         → Seq K 𝓛 (‵ (Own b o ys κ γ) ∷ ‵ (flft κ q) ∷ Γ) (runs C Λ E (seq (call #slot-in xs d) rest) p)
     lends_slot n fits fm met os k =
         lends-read R (named 0) κ q γ b o ys t tt (λ α δ. takes-slot t mem run b o ys (α ∷ []) full_share δ n fits fm met (os α δ) (λ v is. move t (1 ∷ []) $ drop t $ read_back R (named 0) κ q γ b o ys t tt α room (k v is)))

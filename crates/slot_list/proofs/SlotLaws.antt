@@ -35,15 +35,15 @@ tells = LL.tells S.the_type S'.the_laws
 abbrev pub FieldsRow : RattleType
 FieldsRow = F.the_row
 
-abbrev pub fieldsTy : Ty
-fieldsTy = F'.mir
+abbrev pub fields_ty : Ty
+fields_ty = F'.mir
 
 -- a `Put`, at a machine value that is not spelled out
 abbrev pub Res : RattleType
 Res = P.the_row
 
-abbrev pub resTy : Ty
-resTy = P'.mir
+abbrev pub res_ty : Ty
+res_ty = P'.mir
 
 abbrev pub res-vals : Put → List Val
 res-vals = LL.vals P.the_type P'.the_laws
@@ -64,11 +64,11 @@ module _ {M : Type 1} {𝓤 : Ura M} (𝓛 : Logic 𝓤) where
   pub fields-makes : Makes 𝓛 FieldsRow (Is FieldsRow)
   fields-makes = LL.makes F.the_type F'.the_plain 𝓛
 
-  pub fields-typed : (f : Fields) (w : Val) → Is FieldsRow f (w ∷ []) → Holds (has_ty fieldsTy w) × WT w
+  pub fields-typed : (f : Fields) (w : Val) → Is FieldsRow f (w ∷ []) → Holds (has_ty fields_ty w) × WT w
   fields-typed f w is = ((LL.lawful F.the_type F'.the_laws 𝓛).typed f _ is).0
 
   pub res-makes : Makes 𝓛 Res (Is Res)
   res-makes = LL.makes P.the_type P'.the_plain 𝓛
 
-  pub res_typed : (c : Put) (w : Val) → Is Res c (w ∷ []) → Holds (has_ty resTy w) × WT w
+  pub res_typed : (c : Put) (w : Val) → Is Res c (w ∷ []) → Holds (has_ty res_ty w) × WT w
   res_typed c w is = ((LL.lawful P.the_type P'.the_laws 𝓛).typed c _ is).0

@@ -4,33 +4,33 @@ use Rattle.std.specs.Prelude.{Bool, ◌&&◌, ◌||◌, not, List, ℕ, ◌-◌,
 use Rattle.laws.specs.Choice.{pick}
 use Rattle.refusals.specs.Numbers.{done}
 use Rattle.fields.specs.declared.Fields.{Fields}
-use Rattle.fields.specs.Fields.{isSlotNumber}
+use Rattle.fields.specs.Fields.{is_slot_number}
 use Rattle.slots.specs.declared.Slot.{Slot}
 use Rattle.slot_calls.specs.declared.Put.{Put}
-use Rattle.slots.specs.Slots.{hasBad, empty, nil}
+use Rattle.slots.specs.Slots.{has_bad, empty, nil}
 
-abbrev pub isTable : List Slot → Bool
-isTable t = eqb (length t) 32
+abbrev pub is_table : List Slot → Bool
+is_table t = eqb (length t) 32
 
 -- refusal 16: not 32 records, or a bad slot among them
-abbrev pub isNoTable : List Slot → Bool
-isNoTable t = not (isTable t) || hasBad t
+abbrev pub is_no_table : List Slot → Bool
+is_no_table t = not (is_table t) || has_bad t
 
 -- It reads what the slot of a number shows, or the slot with its key, and stores one slot. Where there is none, nothing shows and the slot is empty.
 
 -- past the end unless there are 32 records and the number is a slot's
-abbrev pub placeOf : ℕ → ℕ → ℕ
-placeOf count number = pick (eqb count 32 && isSlotNumber number) (number - 1) count
+abbrev pub place_of : ℕ → ℕ → ℕ
+place_of count number = pick (eqb count 32 && is_slot_number number) (number - 1) count
 
-abbrev pub slotIn : List Slot → ℕ → Slot
-slotIn t number = pick (ltb (placeOf (length t) number) (length t)) (get_or t (placeOf (length t) number) nil) empty
+abbrev pub slot_in : List Slot → ℕ → Slot
+slot_in t number = pick (ltb (place_of (length t) number) (length t)) (get_or t (place_of (length t) number) nil) empty
 
-abbrev pub fieldsIn : List Slot → ℕ → Fields
-fieldsIn t number = (slotIn t number).fields
+abbrev pub fields_in : List Slot → ℕ → Fields
+fields_in t number = (slot_in t number).fields
 
 -- past the end after a refusal
-abbrev pub placeTo : ℕ → ℕ → Put → ℕ
-placeTo count number put = pick (eqb put.refusal done) (placeOf count number) count
+abbrev pub place_to : ℕ → ℕ → Put → ℕ
+place_to count number put = pick (eqb put.refusal done) (place_of count number) count
 
 abbrev pub put_in : List Slot → ℕ → Put → List Slot
-put_in t number put = pick (ltb (placeTo (length t) number put) (length t)) (set t (placeTo (length t) number put) put.slot) t
+put_in t number put = pick (ltb (place_to (length t) number put) (length t)) (set t (place_to (length t) number put) put.slot) t

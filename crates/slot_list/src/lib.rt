@@ -1,15 +1,15 @@
 // The calls' view of a lent list of slot records: the slots are tested where they lie, what a slot shows is read for itself, and only the slot that is
 // asked for is copied with its key.
 ghost use Rattle.std.specs.Prelude.{◌≡◌, ◌||◌, not};
-ghost use Rattle.slots.specs.Slots.{isFilled, is_empty};
-ghost use Rattle.slot_list.specs.List.{isNoTable, placeOf, fieldsIn, slotIn, placeTo, put_in};
+ghost use Rattle.slots.specs.Slots.{is_filled, is_empty};
+ghost use Rattle.slot_list.specs.List.{is_no_table, place_of, fields_in, slot_in, place_to, put_in};
 
 use fields::Fields;
 use slot_calls::Put;
 use slots::Slot;
 
 fn is_unfilled(slot: Slot) -> bool
-    ensures { result ≡ not (isFilled slot) }
+    ensures { result ≡ not (is_filled slot) }
 {
     !slots::is_filled(slot)
 }
@@ -24,7 +24,7 @@ fn or_not_empty(bad: bool, slot: Slot) -> bool
 // A key is read only where every field of its slot is zero: so no key of a filled slot is left behind by the test. Most slots are filled, or their
 // algorithm is none: so that is asked first.
 pub fn is_no_table(t: &[Slot]) -> bool
-    ensures { result ≡ isNoTable t.now }
+    ensures { result ≡ is_no_table t.now }
 {
     let mut bad = true;
     if t.len() == 32 {
@@ -43,7 +43,7 @@ pub fn is_no_table(t: &[Slot]) -> bool
 
 // Where the slot of a number stands among this many records: past their end if there is none.
 fn place_of(count: usize, number: u64) -> usize
-    ensures { result ≡ placeOf count number }
+    ensures { result ≡ place_of count number }
 {
     if count != 32 {
         return count;
@@ -56,7 +56,7 @@ fn place_of(count: usize, number: u64) -> usize
 
 // The slot of a number, with its key; an empty one if there is none.
 pub fn slot_in(t: &[Slot], number: u64) -> Slot
-    ensures { result ≡ slotIn t.now number }
+    ensures { result ≡ slot_in t.now number }
 {
     let mut slot = slots::empty_slot();
     let i = place_of(t.len(), number);
@@ -74,7 +74,7 @@ fn fields_of(slot: Slot) -> Fields
 
 // What the slot of a number shows; nothing if there is none.
 pub fn fields_in(t: &[Slot], number: u64) -> Fields
-    ensures { result ≡ fieldsIn t.now number }
+    ensures { result ≡ fields_in t.now number }
 {
     fields_of(slot_in(t, number))
 }
@@ -93,7 +93,7 @@ fn refusal_of(put: Put) -> u8
 
 // Where a slot is put: past the end if there is no such slot, or the call is refused.
 fn place_to(count: usize, number: u64, put: Put) -> usize
-    ensures { result ≡ placeTo count number put }
+    ensures { result ≡ place_to count number put }
 {
     if put.refusal != refusals::DONE {
         return count;

@@ -2,9 +2,9 @@
 ghost use Rattle.std.specs.Prelude.{◌≡◌, true};
 ghost use Rattle.refusals.specs.Numbers.{done};
 ghost use Rattle.slots.specs.Slots.{keyless};
-ghost use Rattle.rights.specs.Rights.{staysWithin};
-ghost use Rattle.slot_calls.specs.Calls.{movedSlot, shownOf};
-ghost use Rattle.slot_calls.specs.Seen.{loadPut, movePut, emptiedBy, clearPut};
+ghost use Rattle.rights.specs.Rights.{stays_within};
+ghost use Rattle.slot_calls.specs.Calls.{moved_slot, shown_of};
+ghost use Rattle.slot_calls.specs.Seen.{load_put, move_put, emptied_by, clear_put};
 
 use fields::{Asked, Fields};
 use slot_calls::{Put, Shown, clear_refusal, load_refusal};
@@ -12,8 +12,8 @@ use slots::Slot;
 
 // The slot as a move leaves it in its new place.
 fn moved_slot(slot: Slot, asked: u64) -> Slot
-    requires { staysWithin slot.fields.usage asked ≡ true }
-    ensures { result ≡ movedSlot slot asked }
+    requires { stays_within slot.fields.usage asked ≡ true }
+    ensures { result ≡ moved_slot slot asked }
 {
     let key = slot.key;
     let mut fields = slot.fields;
@@ -24,7 +24,7 @@ fn moved_slot(slot: Slot, asked: u64) -> Slot
 // The calls on one slot, by whether its table is bad and by what the slot shows.
 
 pub fn load_of(bad: bool, f: Fields, number: u64, asked: Asked, key: [u8; 24]) -> Put
-    ensures { result ≡ loadPut bad (keyless f) number asked key }
+    ensures { result ≡ load_put bad (keyless f) number asked key }
 {
     let refusal = load_refusal(bad, f, number, asked);
     if refusal != refusals::DONE {
@@ -42,8 +42,8 @@ pub fn load_of(bad: bool, f: Fields, number: u64, asked: Asked, key: [u8; 24]) -
 
 // What the target becomes of a move with this refusal; the source becomes an empty slot. The slot is looked at where it is carried.
 pub fn move_of(refusal: u8, slot: Slot, asked: u64) -> Put
-    requires { refusal ≡ done → staysWithin slot.fields.usage asked ≡ true }
-    ensures { result ≡ movePut refusal slot asked }
+    requires { refusal ≡ done → stays_within slot.fields.usage asked ≡ true }
+    ensures { result ≡ move_put refusal slot asked }
 {
     if refusal != refusals::DONE {
         return Put {
@@ -59,7 +59,7 @@ pub fn move_of(refusal: u8, slot: Slot, asked: u64) -> Put
 
 // The same answer, for a slot that is emptied.
 pub fn emptied(put: Put) -> Put
-    ensures { result ≡ emptiedBy put }
+    ensures { result ≡ emptied_by put }
 {
     Put {
         refusal: put.refusal,
@@ -68,7 +68,7 @@ pub fn emptied(put: Put) -> Put
 }
 
 pub fn clear_of(bad: bool, f: Fields, number: u64) -> Put
-    ensures { result ≡ clearPut bad (keyless f) number }
+    ensures { result ≡ clear_put bad (keyless f) number }
 {
     let refusal = clear_refusal(bad, f, number);
     Put {
@@ -78,7 +78,7 @@ pub fn clear_of(bad: bool, f: Fields, number: u64) -> Put
 }
 
 pub fn read_of(bad: bool, f: Fields, number: u64) -> Shown
-    ensures { result ≡ shownOf bad (keyless f) number }
+    ensures { result ≡ shown_of bad (keyless f) number }
 {
     let refusal = clear_refusal(bad, f, number);
     if refusal != refusals::DONE {

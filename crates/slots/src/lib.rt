@@ -1,7 +1,7 @@
 // The table of thirty-two key slots, by value: load, move, clear and read, and what a use allows.
 ghost use Rattle.std.specs.Prelude.{◌≡◌, true, ◌-◌, ◌<◌};
-ghost use Rattle.fields.specs.Fields.{isSlotNumber, asked_of};
-ghost use Rattle.slots.specs.Slots.{noFields, isNoFields, allZero, is_empty, isFilled, isBad, hasBad, empty, keyless, emptyTable, slot_at, withSlot};
+ghost use Rattle.fields.specs.Fields.{is_slot_number, asked_of};
+ghost use Rattle.slots.specs.Slots.{no_fields, is_no_fields, all_zero, is_empty, is_filled, is_bad, has_bad, empty, keyless, empty_table, slot_at, with_slot};
 
 use fields::{Asked, Fields};
 
@@ -14,7 +14,7 @@ pub struct Slot {
 }
 
 pub fn no_fields() -> Fields
-    ensures { result ≡ noFields }
+    ensures { result ≡ no_fields }
 {
     Fields {
         version: 0,
@@ -37,7 +37,7 @@ pub fn empty_slot() -> Slot
 }
 
 pub fn empty_table() -> [Slot; 32]
-    ensures { result ≡ emptyTable }
+    ensures { result ≡ empty_table }
 {
     let slot = empty_slot();
     [slot; 32]
@@ -58,14 +58,14 @@ pub fn asked(f: Fields) -> Asked
 }
 
 pub fn is_no_fields(f: Fields) -> bool
-    ensures { result ≡ isNoFields f }
+    ensures { result ≡ is_no_fields f }
 {
     (f.version | f.mcc | f.mnc) == 0 && (f.algorithm | f.usage | f.side | f.place) == 0
 }
 
 // No branch on a byte: quick, and the same work for every key.
 fn all_zero(key: [u8; 24]) -> bool
-    ensures { result ≡ allZero key }
+    ensures { result ≡ all_zero key }
 {
     let mut joined: u8 = 0;
     let mut i: usize = 0;
@@ -86,27 +86,27 @@ pub fn is_empty(slot: Slot) -> bool
 }
 
 pub fn are_filled(f: Fields) -> bool
-    ensures { result ≡ isFilled (keyless f) }
+    ensures { result ≡ is_filled (keyless f) }
 {
     let a = asked(f);
     fields::is_algorithm(a.algorithm) && fields::rights_refusal(a) == refusals::DONE
 }
 
 pub fn is_filled(slot: Slot) -> bool
-    ensures { result ≡ isFilled slot }
+    ensures { result ≡ is_filled slot }
 {
     let f = slot.fields;
     are_filled(f)
 }
 
 pub fn is_bad(slot: Slot) -> bool
-    ensures { result ≡ isBad slot }
+    ensures { result ≡ is_bad slot }
 {
     !is_filled(slot) && !is_empty(slot)
 }
 
 pub fn table_is_bad(table: [Slot; 32]) -> bool
-    ensures { result ≡ hasBad table }
+    ensures { result ≡ has_bad table }
 {
     let mut i: usize = 0;
     while i < 32 {
@@ -120,22 +120,22 @@ pub fn table_is_bad(table: [Slot; 32]) -> bool
 }
 
 fn index_of(number: u64) -> usize
-    requires { isSlotNumber number ≡ true }
+    requires { is_slot_number number ≡ true }
     ensures { (result ≡ number - 1) × (result < 32) }
 {
     (number - 1) as usize
 }
 
 pub fn slot_at(table: [Slot; 32], number: u64) -> Slot
-    requires { isSlotNumber number ≡ true }
+    requires { is_slot_number number ≡ true }
     ensures { result ≡ slot_at table number }
 {
     table[index_of(number)]
 }
 
 pub fn with_slot(table: [Slot; 32], number: u64, slot: Slot) -> [Slot; 32]
-    requires { isSlotNumber number ≡ true }
-    ensures { result ≡ withSlot table number slot }
+    requires { is_slot_number number ≡ true }
+    ensures { result ≡ with_slot table number slot }
 {
     let mut t = table;
     t[index_of(number)] = slot;

@@ -9,7 +9,7 @@ use lib.ListN.{length, length-append}
 use Rattle.laws.specs.Bits.{bit_at}
 use Rattle.laws.proofs.Cases.{lt-or-le}
 use Rattle.laws.proofs.Bits.{at_front, at_back, bytes-ext}
-use Rattle.span.specs.Span.{spanBit, put_bit, xored, zeroed, framed, nought}
+use Rattle.span.specs.Span.{span_bit, put_bit, xored, zeroed, framed, nought}
 use Rattle.span.proofs.Within.{Beside, within_in, within-out, in-or-out, nought-lt}
 use Rattle.span.proofs.Laws.{length-written, written-bit, written-outside}
 
@@ -58,7 +58,7 @@ module _ (k : List ℕ) (from n : ℕ) (whole : length k ≡ 32) (fits : from + 
   -- what is xored into m bits of s, from bit e = from + 8 - at of the run alone on, changes the run alone
   pub run_only : (s : List ℕ) (at e m : ℕ) → at < 8 → e + at ≡ from + 8 → at + n ≤ m → m < at + n + 8
       → xored s (bit_at (zeroed (zeroed (framed k) from 8) (from + n + 8) 8)) 0 e m ≡ xored s (bit_at k) at from n
-  unfolding xored spanBit front alone
+  unfolding xored span_bit front alone
   run_only s at e m ha he lo hi =
       bytes-ext _ _ (length s)
       (λ j h.
@@ -77,7 +77,7 @@ module _ (k : List ℕ) (from n : ℕ) (whole : length k ≡ 32) (fits : from + 
           (λ u. let z = w u in after (e + (j - 0)) (omega arith) (omega arith))
           (lt-or-le j at)
 
-      unchanged : (j : ℕ) → Beside at n j → spanBit (bit_at s) (bit_at alone) 0 e m j ≡ bit_at s j
+      unchanged : (j : ℕ) → Beside at n j → span_bit (bit_at s) (bit_at alone) 0 e m j ≡ bit_at s j
       unchanged j w =
           in-or-out 0 m j
           (λ u v. within_in 0 m j _ _ u v ∙ ap (bit_xor (bit_at s j)) (zero_bit j w (omega arith)) ∙ xor_zero_r (bit_at s j))

@@ -10,19 +10,19 @@ use lib.ListN.{length, get_or, set, length-set}
 use lib.Dec.{lit<}
 use lib.Pow.{shr-shr, pow_mono}
 use lib.Seq.{get_or-set_other}
-use Rattle.laws.specs.Bits.{bit_of, bit_at, byteOfBits}
+use Rattle.laws.specs.Bits.{bit_of, bit_at, byte_of_bits}
 use Rattle.laws.proofs.Cases.{lt-or-le}
 use Rattle.laws.proofs.Bits.{bit-xor, low-kept, low-gone, high-kept, high-gone, at_byte, byte-is-bits, bits-of-byte, byte-lt, byte-ext, set-bytes}
-use Rattle.span.specs.Span.{spanBit, put_bit, xored, written, zeroed, nought}
+use Rattle.span.specs.Span.{span_bit, put_bit, xored, written, zeroed, nought}
 use Rattle.span.proofs.Within.{Binary, Beside, within_in, within-out, in-or-out, nought-lt}
 use Rattle.span.proofs.Laws.{Bytes, length-xored, length-written, xored-bytes, written-bytes, xored-join, cleared-join}
 
 -- byte y xor eight bits of a stream
 pub set-xored : (l : List ℕ) (k : ℕ → ℕ) (from y : ℕ) → Binary k → y < length l → Bytes l
-    → set l y (bit_xor (get_or l y 0) (byteOfBits (λ t. k (from + t)))) ≡ xored l k (8 * y) from 8
-unfolding xored spanBit
+    → set l y (bit_xor (get_or l y 0) (byte_of_bits (λ t. k (from + t)))) ≡ xored l k (8 * y) from 8
+unfolding xored span_bit
 set-xored l k from y binary h small =
-    set-bytes l (spanBit (bit_at l) k (8 * y) from 8) y _ h small
+    set-bytes l (span_bit (bit_at l) k (8 * y) from 8) y _ h small
     (sym (byte-is-bits (bit_xor x b) (xor_lt 8 x b (small y) (byte-lt _ (λ t. binary _)))) ∙ byte-ext (bit_of (bit_xor x b)) _ bit)
     (λ j ne. sym (within-out (8 * y) 8 j _ _ (λ u. omega (arith, ne))))
   where
@@ -30,9 +30,9 @@ set-xored l k from y binary h small =
     x = get_or l y 0
 
     b : ℕ
-    b = byteOfBits (λ t. k (from + t))
+    b = byte_of_bits (λ t. k (from + t))
 
-    bit : (t : ℕ) → t < 8 → bit_of (bit_xor x b) t ≡ spanBit (bit_at l) k (8 * y) from 8 (8 * y + t)
+    bit : (t : ℕ) → t < 8 → bit_of (bit_xor x b) t ≡ span_bit (bit_at l) k (8 * y) from 8 (8 * y + t)
     bit t u =
         let e : 8 * y + t - 8 * y ≡ t = omega arith in
         bit-xor x b t
@@ -108,7 +108,7 @@ eight-cleared l i h small =
 -- one byte more, of a run from bit 0 on
 
 pub xored-more : (old s : List ℕ) (k : ℕ → ℕ) (from y v : ℕ) → Binary k → y < length old → s ≡ xored old k 0 from (8 * y)
-    → v ≡ byteOfBits (λ t. k (from + 8 * y + t)) → set s y (bit_xor (get_or s y 0) v) ≡ xored old k 0 from (8 * (y + 1))
+    → v ≡ byte_of_bits (λ t. k (from + 8 * y + t)) → set s y (bit_xor (get_or s y 0) v) ≡ xored old k 0 from (8 * (y + 1))
 xored-more old s k from y v binary h g e =
     let start : 8 * y ≡ 0 + 8 * y = omega arith in
     let more : 8 * y + 8 ≡ 8 * (y + 1) = omega arith in
@@ -132,7 +132,7 @@ pub power : (d : ℕ) → d ≤ 8 → 1 * 2 ^ d % 2 ^ 32 ≡ 2 ^ d
 power d h = ap (λ (m : ℕ). m % 2 ^ 32) (one-mul (2 ^ d)) ∙ mod-eq_of_lt (lt_of_le_of_lt (pow_mono h) (lit< tt))
 
 -- eight bits from bit o on of the number that two bytes are
-pub eight_is : (a b o : ℕ) → b < 256 → o < 8 → (a * 256 + b) / 2 ^ (8 - o) % 256 ≡ byteOfBits (λ t. bit_at (a ∷ b ∷ []) (o + t))
+pub eight_is : (a b o : ℕ) → b < 256 → o < 8 → (a * 256 + b) / 2 ^ (8 - o) % 256 ≡ byte_of_bits (λ t. bit_at (a ∷ b ∷ []) (o + t))
 unfolding bit_of bit_at
 eight_is a b o hb ho =
     sym (byte-is-bits (n / 2 ^ (8 - o) % 256) (mod-lt (n / 2 ^ (8 - o)) (lit< tt)))

@@ -10,14 +10,14 @@ use borrow.Rule.Slice.PartMut.{put_mid, mid_of}
 use Rattle.laws.specs.Bits.{bit_at}
 use Rattle.laws.proofs.Cases.{lt-or-le}
 use Rattle.laws.proofs.Bits.{at_front, at_back, bytes-are-bits}
-use Rattle.span.specs.Span.{spanBit, xored}
+use Rattle.span.specs.Span.{span_bit, xored}
 use Rattle.span.proofs.Within.{Binary, within-out, span-shift}
 use Rattle.span.proofs.Laws.{Bytes, length-xored, xored-bit}
 
 -- a run in the second of two lists
 tail-xored : (xs ys : List ℕ) (k : ℕ → ℕ) (off from n : ℕ) → Binary k → Bytes (xs ++ xored ys k off from n)
     → xs ++ xored ys k off from n ≡ xored (xs ++ ys) k (8 * length xs + off) from n
-unfolding xored spanBit
+unfolding xored span_bit
 tail-xored xs ys k off from n binary small =
     bytes-are-bits (xs ++ xored ys k off from n) _ (length (xs ++ ys)) (simp (length-append, length-xored)) small
     (λ j h. ⊎_elim (under j) (over j (rw length-append at h)) (lt-or-le j (8 * length xs)))
@@ -25,13 +25,13 @@ tail-xored xs ys k off from n binary small =
     b : ℕ
     b = 8 * length xs
 
-    under : (j : ℕ) → j < b → bit_at (xs ++ xored ys k off from n) j ≡ spanBit (bit_at (xs ++ ys)) k (b + off) from n j
+    under : (j : ℕ) → j < b → bit_at (xs ++ xored ys k off from n) j ≡ span_bit (bit_at (xs ++ ys)) k (b + off) from n j
     under j u = at_front xs _ j u ∙ sym (at_front xs ys j u) ∙ sym (within-out (b + off) n j _ _ (λ w. omega arith))
 
-    over : (j : ℕ) → j < 8 * (length xs + length ys) → b ≤ j → bit_at (xs ++ xored ys k off from n) j ≡ spanBit (bit_at (xs ++ ys)) k (b + off) from n j
+    over : (j : ℕ) → j < 8 * (length xs + length ys) → b ≤ j → bit_at (xs ++ xored ys k off from n) j ≡ span_bit (bit_at (xs ++ ys)) k (b + off) from n j
     over j h u =
         let e : b + (j - b) ≡ j = omega arith in
-        subst (λ (m : ℕ). bit_at (xs ++ xored ys k off from n) m ≡ spanBit (bit_at (xs ++ ys)) k (b + off) from n m) e
+        subst (λ (m : ℕ). bit_at (xs ++ xored ys k off from n) m ≡ span_bit (bit_at (xs ++ ys)) k (b + off) from n m) e
         (at_back xs _ (j - b)
         ∙ xored-bit k binary ys off from n (j - b) (omega arith)
         ∙ span-shift (bit_at (xs ++ ys)) (bit_at ys) k b off from n (j - b) (sym (at_back xs ys (j - b))))

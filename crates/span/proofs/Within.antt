@@ -7,7 +7,7 @@ use borrow.Author.Tests.{lt-ltb, le-ltb, le-leb, lt-leb}
 use lib.Bits.{bit_xor, xor_comm, xor_lt, xor_zero_l}
 use Rattle.laws.proofs.Cases.{lt-or-le}
 use Rattle.laws.proofs.Xor.{xor_assoc, xor-back}
-use Rattle.span.specs.Span.{inRun, spanBit, put_bit, nought}
+use Rattle.span.specs.Span.{in_run, span_bit, put_bit, nought}
 
 -- what is xored last and what is xored before it change places
 xor-swap : (a b c : ℕ) → bit_xor (bit_xor a b) c ≡ bit_xor (bit_xor a c) b
@@ -21,12 +21,12 @@ Binary k = (i : ℕ) → k i < 2
 abbrev pub Beside : ℕ → ℕ → ℕ → Type 0
 Beside off n j = off ≤ j → off + n ≤ j
 
-pub within_in : (off n j a b : ℕ) → off ≤ j → j < off + n → inRun off n j a b ≡ a
-unfolding inRun
+pub within_in : (off n j a b : ℕ) → off ≤ j → j < off + n → in_run off n j a b ≡ a
+unfolding in_run
 within_in off n j a b h l = rw (le-leb off j h, lt-ltb j (off + n) l)
 
-pub within-out : (off n j a b : ℕ) → Beside off n j → inRun off n j a b ≡ b
-unfolding inRun
+pub within-out : (off n j a b : ℕ) → Beside off n j → in_run off n j a b ≡ b
+unfolding in_run
 within-out off n j a b h =
     ⊎_elim (λ u. rw (lt-leb off j u)) (λ u. rw (le-leb off j u, le-ltb j (off + n) (h u))) (lt-or-le j off)
 
@@ -39,27 +39,27 @@ in-or-out off n j inside beside =
     (lt-or-le j off)
 
 -- the same bit, inside and beside
-pub within_same : (off n j : ℕ) {a b c d : ℕ} → (off ≤ j → j < off + n → a ≡ c) → (Beside off n j → b ≡ d) → inRun off n j a b ≡ inRun off n j c d
+pub within_same : (off n j : ℕ) {a b c d : ℕ} → (off ≤ j → j < off + n → a ≡ c) → (Beside off n j → b ≡ d) → in_run off n j a b ≡ in_run off n j c d
 within_same off n j {a} {b} {c} {d} p q =
     in-or-out off n j
     (λ u v. within_in off n j a b u v ∙ p u v ∙ sym (within_in off n j c d u v))
     (λ u. within-out off n j a b u ∙ q u ∙ sym (within-out off n j c d u))
 
 -- a run after a run is one run
-pub within-join : (off n m j b : ℕ) {a c : ℕ} → (off + n ≤ j → c ≡ a) → inRun (off + n) m j c (inRun off n j a b) ≡ inRun off (n + m) j a b
+pub within-join : (off n m j b : ℕ) {a c : ℕ} → (off + n ≤ j → c ≡ a) → in_run (off + n) m j c (in_run off n j a b) ≡ in_run off (n + m) j a b
 within-join off n m j b {a} {c} e =
     in-or-out off n j
     (λ u v.
-    within-out (off + n) m j c (inRun off n j a b) (λ w. absurd (omega arith))
+    within-out (off + n) m j c (in_run off n j a b) (λ w. absurd (omega arith))
     ∙ within_in off n j a b u v
     ∙ sym (within_in off (n + m) j a b u (omega arith)))
     (λ h.
-    ap (inRun (off + n) m j c) (within-out off n j a b h)
+    ap (in_run (off + n) m j c) (within-out off n j a b h)
     ∙ in-or-out (off + n) m j
     (λ u v. within_in (off + n) m j c b u v ∙ e u ∙ sym (within_in off (n + m) j a b (omega arith) (omega arith)))
     (λ g. within-out (off + n) m j c b g ∙ sym (within-out off (n + m) j a b (λ w. omega (arith, g (h w))))))
 
-pub within-lt : (off n j : ℕ) {a b : ℕ} → a < 2 → b < 2 → inRun off n j a b < 2
+pub within-lt : (off n j : ℕ) {a b : ℕ} → a < 2 → b < 2 → in_run off n j a b < 2
 within-lt off n j {a} {b} ha hb =
     in-or-out off n j
     (λ u v. rw (within_in off n j a b u v) ha)
@@ -67,8 +67,8 @@ within-lt off n j {a} {b} ha hb =
 
 -- bits that are xored or written are bits
 
-pub span-lt : {p k : ℕ → ℕ} (off from n : ℕ) → Binary p → Binary k → Binary (spanBit p k off from n)
-unfolding spanBit
+pub span-lt : {p k : ℕ → ℕ} (off from n : ℕ) → Binary p → Binary k → Binary (span_bit p k off from n)
+unfolding span_bit
 span-lt {p} {k} off from n hp hk j = within-lt off n j (xor_lt 1 (p j) (k (from + (j - off))) (hp j) (hk _)) (hp j)
 
 pub put-lt : {p k : ℕ → ℕ} (off from n : ℕ) → Binary p → Binary k → Binary (put_bit p k off from n)
@@ -80,8 +80,8 @@ unfolding nought
 nought-lt i = omega arith
 
 -- what is xored and then xored with what follows in the stream is xored once
-pub span-join : (p k : ℕ → ℕ) (off from n m j : ℕ) → spanBit (spanBit p k off from n) k (off + n) (from + n) m j ≡ spanBit p k off from (n + m) j
-unfolding spanBit
+pub span-join : (p k : ℕ → ℕ) (off from n m j : ℕ) → span_bit (span_bit p k off from n) k (off + n) (from + n) m j ≡ span_bit p k off from (n + m) j
+unfolding span_bit
 span-join p k off from n m j =
     within-join off n m j (p j)
     (λ u.
@@ -89,8 +89,8 @@ span-join p k off from n m j =
     rw (within-out off n j (bit_xor (p j) (k (from + (j - off)))) (p j) (λ w. u), e))
 
 -- a run from bit b + off on is one from bit off on of the bits that stand from bit b on
-pub span-shift : (p q k : ℕ → ℕ) (b off from n j : ℕ) → q j ≡ p (b + j) → spanBit q k off from n j ≡ spanBit p k (b + off) from n (b + j)
-unfolding spanBit
+pub span-shift : (p q k : ℕ → ℕ) (b off from n j : ℕ) → q j ≡ p (b + j) → span_bit q k off from n j ≡ span_bit p k (b + off) from n (b + j)
+unfolding span_bit
 span-shift p q k b off from n j e =
     let d : j - off ≡ b + j - (b + off) = omega arith in
     rw (e, d)
@@ -100,8 +100,8 @@ span-shift p q k b off from n j e =
 
 -- two runs change places, whether or not they meet
 pub span-swap : (p k s : ℕ → ℕ) (off from n off₂ from₂ n₂ j : ℕ)
-    → spanBit (spanBit p k off from n) s off₂ from₂ n₂ j ≡ spanBit (spanBit p s off₂ from₂ n₂) k off from n j
-unfolding spanBit
+    → span_bit (span_bit p k off from n) s off₂ from₂ n₂ j ≡ span_bit (span_bit p s off₂ from₂ n₂) k off from n j
+unfolding span_bit
 span-swap p k s off from n off₂ from₂ n₂ j =
     in-or-out off n j
     (λ u v.
@@ -118,19 +118,19 @@ span-swap p k s off from n off₂ from₂ n₂ j =
     y = s (from₂ + (j - off₂))
 
     second : ℕ
-    second = inRun off₂ n₂ j (bit_xor (p j) y) (p j)
+    second = in_run off₂ n₂ j (bit_xor (p j) y) (p j)
 
 -- the same run twice gives every bit back
-pub span-twice : (p k : ℕ → ℕ) (off from n j : ℕ) → spanBit (spanBit p k off from n) k off from n j ≡ p j
-unfolding spanBit
+pub span-twice : (p k : ℕ → ℕ) (off from n j : ℕ) → span_bit (span_bit p k off from n) k off from n j ≡ p j
+unfolding span_bit
 span-twice p k off from n j =
     in-or-out off n j
     (λ u v. within_in off n j _ _ u v ∙ rw (within_in off n j (bit_xor (p j) (k (from + (j - off)))) (p j) u v) (xor-back (p j) (k (from + (j - off)))))
     (λ u. within-out off n j _ _ u ∙ within-out off n j _ _ u)
 
 -- bits that are cleared and then xored are the stream's
-pub span-cleared : (p k : ℕ → ℕ) (off from n j : ℕ) → spanBit (put_bit p nought off 0 n) k off from n j ≡ put_bit p k off from n j
-unfolding spanBit put_bit nought
+pub span-cleared : (p k : ℕ → ℕ) (off from n j : ℕ) → span_bit (put_bit p nought off 0 n) k off from n j ≡ put_bit p k off from n j
+unfolding span_bit put_bit nought
 span-cleared p k off from n j =
     within_same off n j
     (λ u v. rw (within_in off n j 0 (p j) u v) (xor_zero_l (k (from + (j - off)))))

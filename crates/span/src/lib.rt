@@ -2,7 +2,7 @@
 // Bit 0 of a byte is its most significant.
 ghost use Rattle.std.specs.Prelude.{[], ◌∷◌, ◌≡◌, ◌<◌, ◌≤◌, ◌+◌, ◌-◌, ◌*◌, ◌/◌, ◌%◌, ◌^◌, length};
 ghost use Rattle.std.specs.Int.Bits.{bit_xor};
-ghost use Rattle.laws.specs.Bits.{bit_at, byteOfBits};
+ghost use Rattle.laws.specs.Bits.{bit_at, byte_of_bits};
 ghost use Rattle.span.specs.Span.{xored, zeroed, framed};
 
 // The longest buffer of a call, in bytes.
@@ -38,7 +38,7 @@ fn last_off(b: u8, d: usize) -> u8
 // Eight bits that start at bit o of the first of two bytes.
 fn eight(a: u8, b: u8, o: u32) -> u8
     requires { o < 8 }
-    ensures { result ≡ byteOfBits (λ t. bit_at (a ∷ b ∷ []) (o + t)) }
+    ensures { result ≡ byte_of_bits (λ t. bit_at (a ∷ b ∷ []) (o + t)) }
 {
     ((((a as u32) * 256 + (b as u32)) >> (8 - o)) % 256) as u8
 }

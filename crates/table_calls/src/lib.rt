@@ -1,9 +1,9 @@
 // Load, move, clear and read on a table by value (document 01, "Slots and rights").
 ghost use Rattle.std.specs.Prelude.{◌≡◌, true};
 ghost use Rattle.refusals.specs.Numbers.{done};
-ghost use Rattle.fields.specs.Fields.{isSlotNumber};
+ghost use Rattle.fields.specs.Fields.{is_slot_number};
 ghost use Rattle.slot_calls.specs.Calls.{loaded, moved, cleared, shown};
-ghost use Rattle.slot_calls.specs.Seen.{changedBy, slotAs};
+ghost use Rattle.slot_calls.specs.Seen.{changed_by, slot_as};
 
 use fields::{Asked, Fields};
 use slot_calls::{Changed, Put, Shown, move_refusal};
@@ -12,7 +12,7 @@ use slots::Slot;
 
 // The slot of a number; an empty one for a number that is none.
 pub fn slot_or_empty(table: [Slot; 32], number: u64) -> Slot
-    ensures { result ≡ slotAs table number }
+    ensures { result ≡ slot_as table number }
 {
     if !fields::is_slot_number(number) {
         return slots::empty_slot();
@@ -22,7 +22,7 @@ pub fn slot_or_empty(table: [Slot; 32], number: u64) -> Slot
 
 // What it shows.
 fn fields_or_none(table: [Slot; 32], number: u64) -> Fields
-    ensures { result ≡ (slotAs table number).fields }
+    ensures { result ≡ (slot_as table number).fields }
 {
     let slot = slot_or_empty(table, number);
     slot.fields
@@ -30,8 +30,8 @@ fn fields_or_none(table: [Slot; 32], number: u64) -> Fields
 
 // The slot goes to its place; a refusal changes nothing.
 fn put_to(table: [Slot; 32], number: u64, put: Put) -> Changed
-    requires { put.refusal ≡ done → isSlotNumber number ≡ true }
-    ensures { result ≡ changedBy table number put }
+    requires { put.refusal ≡ done → is_slot_number number ≡ true }
+    ensures { result ≡ changed_by table number put }
 {
     let refusal = put.refusal;
     if refusal != refusals::DONE {

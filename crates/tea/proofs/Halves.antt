@@ -6,7 +6,7 @@ use lib.ListN.{set, replicate}
 use Rattle.laws.specs.Lists.{Filled}
 use Rattle.laws.proofs.Lists.{fill_none, fill_more, fill-all}
 use Rattle.tea.specs.declared.mode.Mode.{Mode}
-use Rattle.tea.specs.Mode.{first_of, second_of, modeKey, modeValue, modeBy}
+use Rattle.tea.specs.Mode.{first_of, second_of, mode_key, mode_value, mode_by}
 
 -- bytes below k of both are made
 pub record Halves (f ck ivx ckm ivm : List ℕ) (k : ℕ) : Type 0 where
@@ -24,6 +24,6 @@ halves-more at h x y u v p q high low =
 abbrev mode : List ℕ → List ℕ → ℕ → Mode
 mode key value digit = record { key = key; value = value; digit = digit }
 
-pub halves-all : {f ck ivx ckm ivm : List ℕ} {k : ℕ} (digit : ℕ) → Halves f ck ivx ckm ivm k → 24 ≤ k → mode ckm ivm digit ≡ modeBy f digit ck ivx
-unfolding modeBy modeKey modeValue
+pub halves-all : {f ck ivx ckm ivm : List ℕ} {k : ℕ} (digit : ℕ) → Halves f ck ivx ckm ivm k → 24 ≤ k → mode ckm ivm digit ≡ mode_by f digit ck ivx
+unfolding mode_by mode_key mode_value
 halves-all digit at h = λ i. mode (fill-all at.high h i) (fill-all at.low h i) digit

@@ -9,9 +9,9 @@ abbrev pub mixed : ℕ → ℕ → ℕ → ℕ
 mixed ten nine one = bit_xor (bit_xor ten nine) (times 0xd7 one)
 
 -- b[i]: the first ten are the initial value's
-unfoldable pub expandedByte : List ℕ → ℕ → ℕ
-expandedByte iv = sequence (λ i w. mixed (get_or w 0 0) (get_or w 1 0) (get_or w 9 0)) iv
+unfoldable pub expanded_byte : List ℕ → ℕ → ℕ
+expanded_byte iv = sequence (λ i w. mixed (get_or w 0 0) (get_or w 1 0) (get_or w 9 0)) iv
 
 -- IVX: b[20] to b[43]
-unfoldable pub mixedValue : List ℕ → List ℕ
-mixedValue iv = tabulate (λ k. expandedByte iv (20 + k)) 0 24
+unfoldable pub mixed_value : List ℕ → List ℕ
+mixed_value iv = tabulate (λ k. expanded_byte iv (20 + k)) 0 24

@@ -2,8 +2,8 @@
 use Rattle.std.specs.Prelude.{List, ℕ, ◌+◌, ◌*◌, ◌/◌, ◌%◌, get_or}
 use Rattle.laws.specs.Lists.{tabulate}
 use Rattle.tea.specs.declared.mode.Mode.{Mode}
-use Rattle.algorithms.specs.Algorithm.{combining, digitOf}
-use Rattle.tea.specs.Mixing.{mixedValue}
+use Rattle.algorithms.specs.Algorithm.{combining, digit_of}
+use Rattle.tea.specs.Mixing.{mixed_value}
 
 -- f of a high half and a low half
 abbrev pub combined : List ℕ → ℕ → ℕ → ℕ
@@ -18,16 +18,16 @@ abbrev pub second_of : List ℕ → List ℕ → List ℕ → ℕ → ℕ
 second_of f ck ivx k = combined f (get_or ck k 0 % 16) (get_or ivx k 0 % 16)
 
 -- CKM: the high halves of the results
-unfoldable pub modeKey : List ℕ → List ℕ → List ℕ → List ℕ
-modeKey f ck ivx = tabulate (λ k. first_of f ck ivx k / 16 * 16 + second_of f ck ivx k / 16) 0 24
+unfoldable pub mode_key : List ℕ → List ℕ → List ℕ → List ℕ
+mode_key f ck ivx = tabulate (λ k. first_of f ck ivx k / 16 * 16 + second_of f ck ivx k / 16) 0 24
 
 -- IVM: the low halves
-unfoldable pub modeValue : List ℕ → List ℕ → List ℕ → List ℕ
-modeValue f ck ivx = tabulate (λ k. first_of f ck ivx k % 16 * 16 + second_of f ck ivx k % 16) 0 24
+unfoldable pub mode_value : List ℕ → List ℕ → List ℕ → List ℕ
+mode_value f ck ivx = tabulate (λ k. first_of f ck ivx k % 16 * 16 + second_of f ck ivx k % 16) 0 24
 
-unfoldable pub modeBy : List ℕ → ℕ → List ℕ → List ℕ → Mode
-modeBy f digit ck ivx = record { key = modeKey f ck ivx; value = modeValue f ck ivx; digit = digit }
+unfoldable pub mode_by : List ℕ → ℕ → List ℕ → List ℕ → Mode
+mode_by f digit ck ivx = record { key = mode_key f ck ivx; value = mode_value f ck ivx; digit = digit }
 
 -- the mode of a key and an initial value
 unfoldable pub mode_of : ℕ → List ℕ → List ℕ → Mode
-mode_of algorithm ck iv = modeBy (combining algorithm) (digitOf algorithm) ck (mixedValue iv)
+mode_of algorithm ck iv = mode_by (combining algorithm) (digit_of algorithm) ck (mixed_value iv)

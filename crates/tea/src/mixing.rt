@@ -1,11 +1,11 @@
 // The expansion of the initial value: clauses 5.2, 6.2, 7.2.
 ghost use Rattle.std.specs.Prelude.{◌≡◌};
 ghost use Rattle.laws.specs.Lists.{tabulate, Filled};
-ghost use Rattle.tea.specs.Mixing.{expandedByte, mixedValue};
+ghost use Rattle.tea.specs.Mixing.{expanded_byte, mixed_value};
 
 // b[0] to b[9], and zeros.
 fn first_bytes(iv: [u8; 10]) -> [u8; 44]
-    ensures { Filled (expandedByte iv) 0 44 result 10 }
+    ensures { Filled (expanded_byte iv) 0 44 result 10 }
 {
     let mut b = [0u8; 44];
     for i in 0..10 {
@@ -16,7 +16,7 @@ fn first_bytes(iv: [u8; 10]) -> [u8; 44]
 
 // b[0] to b[43]. Each byte waits for the one before it: so that stands in a local, and the sum of the other two is made a turn ahead.
 fn mixed_bytes(iv: [u8; 10]) -> [u8; 44]
-    ensures { result ≡ tabulate (expandedByte iv) 0 44 }
+    ensures { result ≡ tabulate (expanded_byte iv) 0 44 }
 {
     let mut b = first_bytes(iv);
     let mut last = iv[9];
@@ -32,7 +32,7 @@ fn mixed_bytes(iv: [u8; 10]) -> [u8; 44]
 
 // IVX.
 pub fn mixed_value(iv: [u8; 10]) -> [u8; 24]
-    ensures { result ≡ mixedValue iv }
+    ensures { result ≡ mixed_value iv }
 {
     let b = mixed_bytes(iv);
     let mut ivx = [0u8; 24];

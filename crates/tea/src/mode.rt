@@ -1,6 +1,6 @@
 // The mode key and the mode value: clauses 5.3, 6.3, 7.3.
 ghost use Rattle.std.specs.Prelude.{◌≡◌, ◌+◌, ◌*◌, ◌/◌, ◌%◌};
-ghost use Rattle.tea.specs.Mode.{combined, modeBy, mode_of};
+ghost use Rattle.tea.specs.Mode.{combined, mode_by, mode_of};
 
 use crate::mixing::mixed_value;
 use algorithms::{combining_table, digit};
@@ -42,7 +42,7 @@ fn low_halves(x: u8, y: u8) -> u8
 
 // The mode of a key and a mixed value, by the lent table of f.
 fn mode_by(f: &[u8; 256], digit: u8, ck: [u8; 24], ivx: [u8; 24]) -> Mode
-    ensures { result ≡ modeBy f.now digit ck ivx }
+    ensures { result ≡ mode_by f.now digit ck ivx }
 {
     let mut ckm = [0u8; 24];
     let mut ivm = [0u8; 24];

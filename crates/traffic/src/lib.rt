@@ -2,7 +2,7 @@
 ghost use Rattle.std.specs.Prelude.{◌≡◌};
 ghost use Rattle.laws.specs.Bits.{bit_at};
 ghost use Rattle.slots.specs.Slots.{keyless};
-ghost use Rattle.traffic.specs.Traffic.{onSide, sendsOutOfService, useRefusalOf, trafficRefusalOf};
+ghost use Rattle.traffic.specs.Traffic.{on_side, sends_out_of_service, use_refusal_of, traffic_refusal_of};
 
 use ciphering::span_refusals::span_refusal;
 use fields::Fields;
@@ -23,7 +23,7 @@ pub fn bit_at(s: &[u8], i: usize) -> u8
 
 // The IV marks its direction by bit `place`.
 fn on_side(direction: u64, f: Fields, iv: &[u8]) -> bool
-    ensures { result ≡ onSide direction f iv.now }
+    ensures { result ≡ on_side direction f iv.now }
 {
     let bit = bit_at(iv, f.place as usize);
     if direction == SEND {
@@ -34,14 +34,14 @@ fn on_side(direction: u64, f: Fields, iv: &[u8]) -> bool
 
 // A send with an algorithm that is out of service. A receive with it is none.
 fn sends_out_of_service(direction: u64, f: Fields) -> bool
-    ensures { result ≡ sendsOutOfService direction f }
+    ensures { result ≡ sends_out_of_service direction f }
 {
     direction == SEND && fields::is_out_of_service(f.algorithm as u64)
 }
 
 // Refusals 16, 10, 7, 8, 12, 21, 3, 13, in this order.
 pub fn use_refusal(bad: bool, f: Fields, direction: u64, number: u64, iv: &[u8]) -> u8
-    ensures { result ≡ useRefusalOf bad (keyless f) direction number iv.now }
+    ensures { result ≡ use_refusal_of bad (keyless f) direction number iv.now }
 {
     let slot_refusal = slot_calls::slot_refusal(f, number);
     let not_in_use = !rights::use_includes(f.usage, direction);
@@ -89,7 +89,7 @@ pub fn traffic_refusal(
     n: usize,
     skip: usize,
 ) -> u8
-    ensures { result ≡ trafficRefusalOf bad (keyless f) direction number iv.now buf.now start n skip }
+    ensures { result ≡ traffic_refusal_of bad (keyless f) direction number iv.now buf.now start n skip }
 {
     let use_refusal = use_refusal(bad, f, direction, number, iv);
     refuse(

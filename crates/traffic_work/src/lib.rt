@@ -1,7 +1,7 @@
 // The work of a traffic call that was judged, with a slot's key, on any run of bits of a lent buffer.
 ghost use Rattle.std.specs.Prelude.{◌≡◌};
-ghost use Rattle.ciphering.specs.Span.{schedulesFor, cipheredAs};
-ghost use Rattle.traffic.specs.Traffic.{TrafficMay, trafficAfter};
+ghost use Rattle.ciphering.specs.Span.{schedules_for, ciphered_as};
+ghost use Rattle.traffic.specs.Traffic.{TrafficMay, traffic_after};
 
 use ciphering::Report;
 use ciphering::lent::iv_of;
@@ -21,9 +21,9 @@ pub fn traffic_of(
     skip: usize,
 ) -> Report
     requires { TrafficMay refusal iv.now buf.old start n skip }
-    ensures { (cipheredAs result.refusal buf.new result.blocks
-        ≡ trafficAfter refusal slot iv.now buf.old start n skip)
-        × (result.schedules ≡ schedulesFor result.blocks) }
+    ensures { (ciphered_as result.refusal buf.new result.blocks
+        ≡ traffic_after refusal slot iv.now buf.old start n skip)
+        × (result.schedules ≡ schedules_for result.blocks) }
 {
     if refusal != refusals::DONE {
         return Report {

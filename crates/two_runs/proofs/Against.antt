@@ -5,45 +5,45 @@ use mathlib.Core.List.{List, [], ◌∷◌}
 use Prim.Native.Nat.{ℕ}
 use lib.ListN.{get_or, replicate}
 use Rattle.fields.specs.declared.Asked.{Asked}
-use Rattle.fields.specs.Fields.{storedOf}
+use Rattle.fields.specs.Fields.{stored_of}
 use Rattle.slots.specs.declared.Slot.{Slot}
 use Rattle.slot_calls.specs.declared.Changed.{Changed}
 use Rattle.slot_calls.specs.declared.Shown.{Shown}
-use Rattle.slots.specs.Slots.{empty, slot_at, withSlot}
-use Rattle.slot_calls.specs.Calls.{moveRefusal, answered, loaded, moved, cleared, shown}
-use Rattle.traffic.specs.Traffic.{trafficRefusal, trafficBlocks, trafficked}
-use Rattle.whole.specs.Whole.{wholeRefusal, wholeBlocks, wholed}
+use Rattle.slots.specs.Slots.{empty, slot_at, with_slot}
+use Rattle.slot_calls.specs.Calls.{move_refusal, answered, loaded, moved, cleared, shown}
+use Rattle.traffic.specs.Traffic.{traffic_refusal, traffic_blocks, trafficked}
+use Rattle.whole.specs.Whole.{whole_refusal, whole_blocks, wholed}
 use Rattle.two_runs.specs.Calls.{Use, Origin}
-use Rattle.two_runs.specs.Card.{Card, OfTraffic, OfPdu, cardBy}
+use Rattle.two_runs.specs.Card.{Card, OfTraffic, OfPdu, card_by}
 
 -- our card, but for one answer
 
 abbrev pub loading : (List Slot → ℕ → Asked → List ℕ → Changed) → Card
-loading loads = cardBy loads moved cleared shown trafficRefusal trafficBlocks trafficked wholeRefusal wholeBlocks wholed
+loading loads = card_by loads moved cleared shown traffic_refusal traffic_blocks trafficked whole_refusal whole_blocks wholed
 
 -- what arrives is made of the slot that left
 abbrev pub moving : (Slot → Slot) → Card
 moving f =
-    cardBy loaded (λ table from to asked. answered (moveRefusal table from to asked) table (withSlot (withSlot table to (f (slot_at table from))) from empty)) cleared shown
-    trafficRefusal trafficBlocks trafficked wholeRefusal wholeBlocks wholed
+    card_by loaded (λ table from to asked. answered (move_refusal table from to asked) table (with_slot (with_slot table to (f (slot_at table from))) from empty)) cleared shown
+    traffic_refusal traffic_blocks trafficked whole_refusal whole_blocks wholed
 
 abbrev pub clearing : (List Slot → ℕ → Changed) → Card
-clearing clears = cardBy loaded moved clears shown trafficRefusal trafficBlocks trafficked wholeRefusal wholeBlocks wholed
+clearing clears = card_by loaded moved clears shown traffic_refusal traffic_blocks trafficked whole_refusal whole_blocks wholed
 
 abbrev pub showing : (List Slot → ℕ → Shown) → Card
-showing reads = cardBy loaded moved cleared reads trafficRefusal trafficBlocks trafficked wholeRefusal wholeBlocks wholed
+showing reads = card_by loaded moved cleared reads traffic_refusal traffic_blocks trafficked whole_refusal whole_blocks wholed
 
 abbrev pub refusing : OfTraffic ℕ → Card
-refusing refusal = cardBy loaded moved cleared shown refusal trafficBlocks trafficked wholeRefusal wholeBlocks wholed
+refusing refusal = card_by loaded moved cleared shown refusal traffic_blocks trafficked whole_refusal whole_blocks wholed
 
 abbrev pub counting : OfTraffic ℕ → Card
-counting blocks = cardBy loaded moved cleared shown trafficRefusal blocks trafficked wholeRefusal wholeBlocks wholed
+counting blocks = card_by loaded moved cleared shown traffic_refusal blocks trafficked whole_refusal whole_blocks wholed
 
 abbrev pub writing : OfTraffic (List ℕ) → Card
-writing buffer = cardBy loaded moved cleared shown trafficRefusal trafficBlocks buffer wholeRefusal wholeBlocks wholed
+writing buffer = card_by loaded moved cleared shown traffic_refusal traffic_blocks buffer whole_refusal whole_blocks wholed
 
-abbrev pub writingPdu : OfPdu (List ℕ) → Card
-writingPdu buffer = cardBy loaded moved cleared shown trafficRefusal trafficBlocks trafficked wholeRefusal wholeBlocks buffer
+abbrev pub writing_pdu : OfPdu (List ℕ) → Card
+writing_pdu buffer = card_by loaded moved cleared shown traffic_refusal traffic_blocks trafficked whole_refusal whole_blocks buffer
 
 -- what the lists of calls are made of: a key of TEA5 for any use, with side 0 at place 28, of network 262, 1001; a key of one byte 24 times; an initial value of
 -- zeros, and one whose bit 28 is 1; one byte to cipher
@@ -52,7 +52,7 @@ abbrev pub asked : ℕ → Asked
 asked usage = record { version = 7; algorithm = 5; usage = usage; side = 0; place = 28; mcc = 262; mnc = 1001 }
 
 abbrev pub slot_of : ℕ → List ℕ → Slot
-slot_of usage key = record { fields = storedOf (asked usage); key = key }
+slot_of usage key = record { fields = stored_of (asked usage); key = key }
 
 abbrev pub made : ℕ → ℕ → ℕ → ℕ → ℕ → ℕ → ℕ → List ℕ → Slot
 made version algorithm usage side place mcc mnc key =
@@ -61,8 +61,8 @@ made version algorithm usage side place mcc mnc key =
 abbrev pub key_of : ℕ → List ℕ
 key_of b = replicate 24 b
 
-abbrev pub keyByte : List Slot → ℕ → ℕ
-keyByte table number = get_or (slot_at table number).key 0 0
+abbrev pub key_byte : List Slot → ℕ → ℕ
+key_byte table number = get_or (slot_at table number).key 0 0
 
 abbrev pub zeros : List ℕ
 zeros = replicate 10 0
@@ -78,16 +78,16 @@ byte = 0 ∷ []
 
 -- choices of origins
 
-abbrev pub noneChosen : Origin → Bool
-noneChosen origin = false
+abbrev pub none_chosen : Origin → Bool
+none_chosen origin = false
 
-abbrev pub allChosen : Origin → Bool
-allChosen origin = true
+abbrev pub all_chosen : Origin → Bool
+all_chosen origin = true
 
 -- what a move may make of a slot: one for both directions, or one with place 0
 
-abbrev pub forBoth : Slot → Slot
-forBoth s = made s.fields.version s.fields.algorithm 3 s.fields.side s.fields.place s.fields.mcc s.fields.mnc s.key
+abbrev pub for_both : Slot → Slot
+for_both s = made s.fields.version s.fields.algorithm 3 s.fields.side s.fields.place s.fields.mcc s.fields.mnc s.key
 
-abbrev pub atPlace0 : Slot → Slot
-atPlace0 s = made s.fields.version s.fields.algorithm s.fields.usage s.fields.side 0 s.fields.mcc s.fields.mnc s.key
+abbrev pub at_place0 : Slot → Slot
+at_place0 s = made s.fields.version s.fields.algorithm s.fields.usage s.fields.side 0 s.fields.mcc s.fields.mnc s.key

@@ -11,21 +11,21 @@ use lib.ListN.{length}
 use Rattle.laws.specs.Choice.{pick}
 use Rattle.laws.specs.Bits.{bit_of, bit_at}
 use Rattle.refusals.specs.Numbers.{done}
-use Rattle.slots.specs.Slots.{allZero, is_empty, isFilled, isBad, hasBad}
-use Rattle.slot_calls.specs.Calls.{slotRefusalOf}
+use Rattle.slots.specs.Slots.{all_zero, is_empty, is_filled, is_bad, has_bad}
+use Rattle.slot_calls.specs.Calls.{slot_refusal_of}
 use Rattle.span.proofs.Laws.{xored-inside}
 use Rattle.span.proofs.Stream.{stream-lt}
 use Rattle.keystream.specs.Stream.{keystream}
-use Rattle.plan.specs.Plan.{planRefusal, plannedPieces, plan_of}
-use Rattle.ciphering.specs.Span.{spanRefusal}
-use Rattle.traffic.specs.Traffic.{useRefusalOf, trafficRefusalOf, trafficRefusal, trafficked}
+use Rattle.plan.specs.Plan.{plan_refusal, planned_pieces, plan_of}
+use Rattle.ciphering.specs.Span.{span_refusal}
+use Rattle.traffic.specs.Traffic.{use_refusal_of, traffic_refusal_of, traffic_refusal, trafficked}
 use Rattle.traffic.proofs.Laws.{traffic-accepted}
 use Rattle.whole.specs.declared.Pdu.{Pdu}
-use Rattle.whole.specs.Whole.{flagOf, roomRefusal, openRefusalOf, wholeRefusalOf, wholeRefusal, wholed}
+use Rattle.whole.specs.Whole.{flag_of, room_refusal, open_refusal_of, whole_refusal_of, whole_refusal, wholed}
 use Rattle.two_runs.specs.Calls.{pdu, traffic}
 use Rattle.two_runs.specs.Card.{Card, OfPdu, step}
 use Rattle.two_runs.specs.Demand.{Demand3FromEmpty}
-use Rattle.two_runs.proofs.Against.{writingPdu, key_of, zeros, used}
+use Rattle.two_runs.proofs.Against.{writing_pdu, key_of, zeros, used}
 use Rattle.two_runs.proofs.AgainstRuns.{holding, loads, would-agree, may-send, bit-1-differs}
 use Rattle.two_runs.proofs.AgainstBits.{inside_of}
 
@@ -33,13 +33,13 @@ use Rattle.two_runs.proofs.AgainstBits.{inside_of}
 abbrev four : List ℕ
 four = 0 ∷ 0 ∷ 0 ∷ 0 ∷ []
 
-abbrev withSdu : ℕ → Pdu
-withSdu s = record { kind = 1; state = 3; length = 32; address = 0; sdu = s }
+abbrev with_sdu : ℕ → Pdu
+with_sdu s = record { kind = 1; state = 3; length = 32; address = 0; sdu = s }
 
 -- the second bit of n that traffic ciphers is keystream bit 1
-module _ (start n : ℕ) (fits : spanRefusal 4 start n 0 ≡ 0) (some : 1 < n) (inside : start + 1 < 32) (clear : bit_at four (start + 1) ≡ 0) where
-  sent : (key : List ℕ) → trafficRefusal (holding key) 1 1 zeros four start n 0 ≡ 0
-  unfolding trafficRefusalOf
+module _ (start n : ℕ) (fits : span_refusal 4 start n 0 ≡ 0) (some : 1 < n) (inside : start + 1 < 32) (clear : bit_at four (start + 1) ≡ 0) where
+  sent : (key : List ℕ) → traffic_refusal (holding key) 1 1 zeros four start n 0 ≡ 0
+  unfolding traffic_refusal_of
   sent key = rw (may-send key) fits
 
   given : (key : List ℕ) → bit_at (trafficked (holding key) 1 1 zeros four start n 0) (start + 1) ≡ keystream 5 key zeros 1
@@ -54,30 +54,30 @@ module _ (start n : ℕ) (fits : spanRefusal 4 start n 0 ≡ 0) (some : 1 < n) (
 
 -- the last bit of the address and the bit behind it are ciphered: bit 24, between the two pieces, is the keystream's
 
-abbrev pub betweenPieces : Card
-betweenPieces = writingPdu (λ table direction number iv buf u. trafficked table direction number iv buf (u.address + 23) 2 0)
+abbrev pub between_pieces : Card
+between_pieces = writing_pdu (λ table direction number iv buf u. trafficked table direction number iv buf (u.address + 23) 2 0)
 
-pub between-pieces : Demand3FromEmpty betweenPieces → ⊥
-unfolding step spanRefusal plan_of planRefusal plannedPieces flagOf bit_at bit_of
+pub between-pieces : Demand3FromEmpty between_pieces → ⊥
+unfolding step span_refusal plan_of plan_refusal planned_pieces flag_of bit_at bit_of
 between-pieces demand =
     ⊎_elim
     (differs 23 2 refl (lit< tt) (lit< tt) refl)
     (λ m. true≢false (sym (inside_of m)))
-    ((would-agree betweenPieces loads demand (traffic (used 1 1 zeros) four (pdu (withSdu 26))) (key_of 0) (key_of 1)).bits 24)
+    ((would-agree between_pieces loads demand (traffic (used 1 1 zeros) four (pdu (with_sdu 26))) (key_of 0) (key_of 1)).bits 24)
 
 -- the address is ciphered, and the call is refused then: its DM-SDU starts too early, and the answer is 19
 
-abbrev halfDone : OfPdu (List ℕ)
-halfDone table direction number iv buf u =
-    pick (eqb (wholeRefusal table direction number iv buf u) done) (wholed table direction number iv buf u) (trafficked table direction number iv buf u.address 24 0)
+abbrev half_done : OfPdu (List ℕ)
+half_done table direction number iv buf u =
+    pick (eqb (whole_refusal table direction number iv buf u) done) (wholed table direction number iv buf u) (trafficked table direction number iv buf u.address 24 0)
 
-abbrev pub firstPieceOnly : Card
-firstPieceOnly = writingPdu halfDone
+abbrev pub first_piece_only : Card
+first_piece_only = writing_pdu half_done
 
-pub first-piece-only : Demand3FromEmpty firstPieceOnly → ⊥
-unfolding step holding spanRefusal wholeRefusalOf openRefusalOf roomRefusal useRefusalOf slotRefusalOf planRefusal flagOf hasBad isBad isFilled is_empty allZero bit_at bit_of
+pub first-piece-only : Demand3FromEmpty first_piece_only → ⊥
+unfolding step holding span_refusal whole_refusal_of open_refusal_of room_refusal use_refusal_of slot_refusal_of plan_refusal flag_of has_bad is_bad is_filled is_empty all_zero bit_at bit_of
 first-piece-only demand =
     ⊎_elim
     (differs 0 24 refl (lit< tt) (lit< tt) refl)
     (λ m. let e : ◌≡◌ {A = ℕ} 19 0 = m.ciphers.accepted in omega arith)
-    ((would-agree firstPieceOnly loads demand (traffic (used 1 1 zeros) four (pdu (withSdu 20))) (key_of 0) (key_of 1)).bits 1)
+    ((would-agree first_piece_only loads demand (traffic (used 1 1 zeros) four (pdu (with_sdu 20))) (key_of 0) (key_of 1)).bits 1)

@@ -7,20 +7,20 @@ use native.Mathlib.Nat.{add-zero, add-suc, suc-add}
 use borrow.Author.Tests.{not-false}
 use lib.ListN.{length, get_or}
 use Rattle.slots.specs.declared.Slot.{Slot}
-use Rattle.slots.specs.Slots.{is_empty, isFilled, isBad, nil, emptyTable}
+use Rattle.slots.specs.Slots.{is_empty, is_filled, is_bad, nil, empty_table}
 use Rattle.slots.proofs.Tables.{filled-not-empty}
 use Rattle.slot_calls.proofs.Left.{empty-table-good}
 use Rattle.slot_calls.proofs.Alike.{seen, Alike}
 use Rattle.two_runs.specs.Calls.{Origin, TwinSlots, same-slot, other-present, TwinTables, no_slot, slot, Starts}
 
 -- a slot that is neither filled nor bad is empty
-pub empty-else : (s : Slot) → isBad s ≡ false → isFilled s ≡ false → is_empty s ≡ true
-unfolding isBad
+pub empty-else : (s : Slot) → is_bad s ≡ false → is_filled s ≡ false → is_empty s ≡ true
+unfolding is_bad
 empty-else s good not-filled = not-false (is_empty s) (rw not-filled at good)
 
 module _ (chosen : Origin → Bool) where
   seen-twins : {number : ℕ} {s t : Slot} → TwinSlots chosen number s t → seen s ≡ seen t
-  unfolding isFilled
+  unfolding is_filled
   seen-twins (same-slot s) = refl
   seen-twins (other-present f key other filled picked) =
       λ i. record { fields = f; none = (filled-not-empty (record { fields = f; key = key }) filled ∙ sym (filled-not-empty (record { fields = f; key = other }) filled)) i }
@@ -39,7 +39,7 @@ module _ (chosen : Origin → Bool) where
   twins-at {number} (slot s r) (suc i) = rw (add-suc number i, ← suc-add number i) (twins-at r i)
 
   -- a slot that is not filled holds one key
-  pub unfilled-key : {number : ℕ} {s t : Slot} → TwinSlots chosen number s t → isFilled s ≡ false → s.key ≡ t.key
+  pub unfilled-key : {number : ℕ} {s t : Slot} → TwinSlots chosen number s t → is_filled s ≡ false → s.key ≡ t.key
   unfilled-key (same-slot s) e = refl
   unfilled-key (other-present f key other filled picked) e = absurd (true≢false (sym filled ∙ e))
 
@@ -49,5 +49,5 @@ module _ (chosen : Origin → Bool) where
   itself [] = no_slot
   itself (s ∷ table) = slot (same-slot s) (itself table)
 
-  pub empty-starts : Starts chosen emptyTable emptyTable
-  empty-starts = record { size = refl; sound = empty-table-good.sound; twins = itself emptyTable }
+  pub empty-starts : Starts chosen empty_table empty_table
+  empty-starts = record { size = refl; sound = empty-table-good.sound; twins = itself empty_table }

@@ -31,13 +31,13 @@ OfTraffic A = List Slot → ℕ → ℕ → List ℕ → List ℕ → ℕ → �
 abbrev pub OfPdu : Type 0 → Type 0
 OfPdu A = List Slot → ℕ → ℕ → List ℕ → List ℕ → Pdu → A
 
-abbrev pub trafficBy : OfTraffic ℕ → OfTraffic ℕ → OfTraffic (List ℕ) → OfPdu ℕ → OfPdu ℕ → OfPdu (List ℕ) → List Slot → Use → List ℕ → Work → Step
-trafficBy refusal blocks buffer refusesPdu countsPdu writesPdu table how buf (span start n skip) =
+abbrev pub traffic_by : OfTraffic ℕ → OfTraffic ℕ → OfTraffic (List ℕ) → OfPdu ℕ → OfPdu ℕ → OfPdu (List ℕ) → List Slot → Use → List ℕ → Work → Step
+traffic_by refusal blocks buffer refusesPdu countsPdu writesPdu table how buf (span start n skip) =
     ciphering table
     (refusal table how.direction how.number how.iv buf start n skip)
     (blocks table how.direction how.number how.iv buf start n skip)
     (buffer table how.direction how.number how.iv buf start n skip)
-trafficBy refusal blocks buffer refusesPdu countsPdu writesPdu table how buf (pdu u) =
+traffic_by refusal blocks buffer refusesPdu countsPdu writesPdu table how buf (pdu u) =
     ciphering table
     (refusesPdu table how.direction how.number how.iv buf u)
     (countsPdu table how.direction how.number how.iv buf u)
@@ -45,11 +45,11 @@ trafficBy refusal blocks buffer refusesPdu countsPdu writesPdu table how buf (pd
 
 -- a card by its answers to load, move, clear and read, and the refusal, the block count and the buffer of traffic, and of a call for a whole PDU; a read
 -- and a traffic call leave the table as it is
-abbrev pub cardBy : (List Slot → ℕ → Asked → List ℕ → Changed) → (List Slot → ℕ → ℕ → ℕ → Changed) → (List Slot → ℕ → Changed) → (List Slot → ℕ → Shown) → OfTraffic ℕ → OfTraffic ℕ → OfTraffic (List ℕ) → OfPdu ℕ → OfPdu ℕ → OfPdu (List ℕ) → Card
-cardBy loads moves clears reads refusal blocks buffer refusesPdu countsPdu writesPdu = record {
+abbrev pub card_by : (List Slot → ℕ → Asked → List ℕ → Changed) → (List Slot → ℕ → ℕ → ℕ → Changed) → (List Slot → ℕ → Changed) → (List Slot → ℕ → Shown) → OfTraffic ℕ → OfTraffic ℕ → OfTraffic (List ℕ) → OfPdu ℕ → OfPdu ℕ → OfPdu (List ℕ) → Card
+card_by loads moves clears reads refusal blocks buffer refusesPdu countsPdu writesPdu = record {
   load = λ table number a key. changing (loads table number a key);
   move = λ table from to asked. changing (moves table from to asked);
   clear = λ table number. changing (clears table number);
   read = λ table number. reading table (reads table number);
-  traffic = trafficBy refusal blocks buffer refusesPdu countsPdu writesPdu;
+  traffic = traffic_by refusal blocks buffer refusesPdu countsPdu writesPdu;
 }

@@ -22,8 +22,8 @@ abbrev pub call_at : List Call → ℕ → Call
 call_at cs i = get_or cs i (read 0)
 
 -- entry i of what was seen; past the end only ever a default
-abbrev pub seenIn : List Seen → ℕ → Seen
-seenIn xs i = get_or xs i (told 0)
+abbrev pub seen_in : List Seen → ℕ → Seen
+seen_in xs i = get_or xs i (told 0)
 
 module _ (card : Card) where
   abbrev pub accepted : State → Call → Bool
@@ -43,18 +43,18 @@ module _ (card : Card) where
   run s (c ∷ cs) = (step card s.table c).seen ∷ run (next s c) cs
 
   -- before call i, counted from 0
-  unfoldable pub stateAt : State → List Call → ℕ → State
-  stateAt s [] i = s
-  stateAt s (c ∷ cs) zero = s
-  stateAt s (c ∷ cs) (suc i) = stateAt (next s c) cs i
+  unfoldable pub state_at : State → List Call → ℕ → State
+  state_at s [] i = s
+  state_at s (c ∷ cs) zero = s
+  state_at s (c ∷ cs) (suc i) = state_at (next s c) cs i
 
   -- from a table: what was seen of call i, and the table and its trace before it
 
   abbrev pub seen_at : List Slot → List Call → ℕ → Seen
-  seen_at table cs i = seenIn (run (start_of table) cs) i
+  seen_at table cs i = seen_in (run (start_of table) cs) i
 
   abbrev pub table_at : List Slot → List Call → ℕ → List Slot
-  table_at table cs i = (stateAt (start_of table) cs i).table
+  table_at table cs i = (state_at (start_of table) cs i).table
 
-  abbrev pub traceAt : List Slot → List Call → ℕ → Trace
-  traceAt table cs i = (stateAt (start_of table) cs i).trace
+  abbrev pub trace_at : List Slot → List Call → ℕ → Trace
+  trace_at table cs i = (state_at (start_of table) cs i).trace

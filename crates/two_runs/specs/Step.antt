@@ -4,7 +4,7 @@ use Rattle.fields.specs.declared.Fields.{Fields}
 use Rattle.slots.specs.declared.Slot.{Slot}
 use Rattle.slot_calls.specs.declared.Changed.{Changed}
 use Rattle.slot_calls.specs.declared.Shown.{Shown}
-use Rattle.slots.specs.Slots.{noFields}
+use Rattle.slots.specs.Slots.{no_fields}
 
 -- the refusal; the block count; a record read, its number and fields; the buffer afterwards. What a call does not give is 0, or no byte
 pub record Seen : Type 0 where
@@ -20,7 +20,7 @@ pub record Step : Type 0 where
 
 -- a refusal alone
 abbrev pub told : ℕ → Seen
-told refusal = record { refusal = refusal; blocks = 0; number = 0; fields = noFields; buffer = [] }
+told refusal = record { refusal = refusal; blocks = 0; number = 0; fields = no_fields; buffer = [] }
 
 -- a load, a move, a clear
 abbrev pub changing : Changed → Step
@@ -34,4 +34,4 @@ reading table x =
 -- a traffic call that leaves this table
 abbrev pub ciphering : List Slot → ℕ → ℕ → List ℕ → Step
 ciphering table refusal blocks buffer =
-    record { table = table; seen = record { refusal = refusal; blocks = blocks; number = 0; fields = noFields; buffer = buffer } }
+    record { table = table; seen = record { refusal = refusal; blocks = blocks; number = 0; fields = no_fields; buffer = buffer } }

@@ -1,12 +1,12 @@
 // Answers cases: reads up to 262,144 bytes from standard input, a case a line, and writes a line for each to standard output.
 ghost use Rattle.std.specs.Prelude.{◌≤◌, length};
-ghost use Rattle.cases.specs.Answer.{answerRoom};
+ghost use Rattle.cases.specs.Answer.{answer_room};
 
 use libc::{STDIN_FILENO, STDOUT_FILENO};
 
 // One answer after the other, each by way of the lent buffer.
 fn answer_all(input: &[u8], out: &mut [u8])
-    requires { answerRoom ≤ length out.old }
+    requires { answer_room ≤ length out.old }
 {
     let mut at = 0;
     while at < input.len() {

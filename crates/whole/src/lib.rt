@@ -1,8 +1,8 @@
 // A whole PDU in one call: its plan, judged before a bit changes, and the slot whose key it needs.
 ghost use Rattle.std.specs.Prelude.{◌≡◌, length, not};
 ghost use Rattle.slots.specs.Slots.{keyless};
-ghost use Rattle.slot_calls.specs.Seen.{keySlot};
-ghost use Rattle.whole.specs.Whole.{flagOf, roomRefusal, openRefusalOf, wholePlan, hasNoPiece, judgedPlan};
+ghost use Rattle.slot_calls.specs.Seen.{key_slot};
+ghost use Rattle.whole.specs.Whole.{flag_of, room_refusal, open_refusal_of, whole_plan, has_no_piece, judged_plan};
 
 use fields::Fields;
 use plan::Plan;
@@ -24,7 +24,7 @@ pub struct Pdu {
 
 // The fragmentation flag of a PDU: its bit 12, counted from 1, if it is of kind 2 and has one.
 fn flag_of(pdu: Pdu, buf: &[u8]) -> u64
-    ensures { result ≡ flagOf pdu buf.now }
+    ensures { result ≡ flag_of pdu buf.now }
 {
     if pdu.kind != SYNC_ON_SCH_H {
         return 0;
@@ -36,7 +36,7 @@ fn flag_of(pdu: Pdu, buf: &[u8]) -> u64
 }
 
 fn plan_of(pdu: Pdu, buf: &[u8]) -> Plan
-    ensures { result ≡ wholePlan buf.now pdu }
+    ensures { result ≡ whole_plan buf.now pdu }
 {
     let flag = flag_of(pdu, buf);
     plan::plan_pdu(pdu.kind, pdu.state, flag, pdu.length, pdu.address, pdu.sdu)
@@ -44,7 +44,7 @@ fn plan_of(pdu: Pdu, buf: &[u8]) -> Plan
 
 // Refusals 5, 6.
 fn room_refusal(size: usize, length: usize) -> u8
-    ensures { result ≡ roomRefusal size length }
+    ensures { result ≡ room_refusal size length }
 {
     if span::LONGEST_BUFFER < size {
         return refusals::BUFFER;
@@ -65,7 +65,7 @@ fn open_refusal(
     size: usize,
     length: usize,
 ) -> u8
-    ensures { result ≡ openRefusalOf bad (keyless f) direction number iv.now size length }
+    ensures { result ≡ open_refusal_of bad (keyless f) direction number iv.now size length }
 {
     let use_refusal = use_refusal(bad, f, direction, number, iv);
     refuse(
@@ -86,7 +86,7 @@ pub fn judged_plan(
     buf: &[u8],
     pdu: Pdu,
 ) -> Plan
-    ensures { result ≡ judgedPlan bad (keyless f) direction number iv.now buf.now pdu }
+    ensures { result ≡ judged_plan bad (keyless f) direction number iv.now buf.now pdu }
 {
     let open = open_refusal(bad, f, direction, number, iv, buf.len(), pdu.length);
     if open != refusals::DONE {
@@ -96,7 +96,7 @@ pub fn judged_plan(
 }
 
 pub fn has_no_piece(p: Plan) -> bool
-    ensures { result ≡ hasNoPiece p }
+    ensures { result ≡ has_no_piece p }
 {
     let first = p.first;
     let second = p.second;
@@ -105,7 +105,7 @@ pub fn has_no_piece(p: Plan) -> bool
 
 // Whose key a call with this plan reads: the slot's of its number, and no slot's where there is no piece.
 pub fn key_slot(p: Plan, number: u64) -> u64
-    ensures { result ≡ keySlot (not (hasNoPiece p)) number }
+    ensures { result ≡ key_slot (not (has_no_piece p)) number }
 {
     if has_no_piece(p) {
         slot_calls::NO_SLOT

@@ -1,10 +1,10 @@
 // The work of a whole PDU that was judged, with a slot's key: every piece of its plan is ciphered, or no bit changes.
 ghost use Rattle.std.specs.Prelude.{◌≡◌, ◌≤◌, length};
-ghost use Rattle.span.specs.Span.{longestBuffer};
+ghost use Rattle.span.specs.Span.{longest_buffer};
 ghost use Rattle.keystream.specs.Stream.{keystream};
 ghost use Rattle.keystream.specs.Work.{Fits, Later};
-ghost use Rattle.ciphering.specs.Span.{schedulesFor, cipheredAs};
-ghost use Rattle.whole.specs.Whole.{run_from, runOf, ciphered, planBlocks, WholeMay, wholeAfter};
+ghost use Rattle.ciphering.specs.Span.{schedules_for, ciphered_as};
+ghost use Rattle.whole.specs.Whole.{run_from, run_of, ciphered, plan_blocks, WholeMay, whole_after};
 
 use ciphering::Report;
 use ciphering::lent::iv_of;
@@ -31,10 +31,10 @@ fn run_of(p: Piece, skip: usize) -> Run
 
 // Each piece of a plan becomes itself xor its part of the keystream; every other bit stays. Where there is no piece, no schedule is filled.
 fn cipher_pieces(buf: &mut [u8], p: Plan, algorithm: u64, key: [u8; 24], iv: [u8; 10]) -> Tally
-    requires { (length buf.old ≤ longestBuffer) × Fits buf.old (runOf p.first) × Fits buf.old (runOf p.second) × Later (runOf p.first) (runOf p.second) }
+    requires { (length buf.old ≤ longest_buffer) × Fits buf.old (run_of p.first) × Fits buf.old (run_of p.second) × Later (run_of p.first) (run_of p.second) }
     ensures { (buf.new ≡ ciphered buf.old (keystream algorithm key iv) p)
-        × (result.blocks ≡ planBlocks p)
-        × (result.schedules ≡ schedulesFor (planBlocks p)) }
+        × (result.blocks ≡ plan_blocks p)
+        × (result.schedules ≡ schedules_for (plan_blocks p)) }
 {
     if has_no_piece(p) {
         return NOTHING_MADE;
@@ -47,8 +47,8 @@ fn cipher_pieces(buf: &mut [u8], p: Plan, algorithm: u64, key: [u8; 24], iv: [u8
 // The work of a plan that was judged. Reports how many blocks were made. Where there is no piece, the slot's key has no say.
 pub fn whole_of(p: Plan, slot: Slot, iv: &[u8], buf: &mut [u8]) -> Report
     requires { WholeMay p iv.now buf.old }
-    ensures { (cipheredAs result.refusal buf.new result.blocks ≡ wholeAfter p slot iv.now buf.old)
-        × (result.schedules ≡ schedulesFor result.blocks) }
+    ensures { (ciphered_as result.refusal buf.new result.blocks ≡ whole_after p slot iv.now buf.old)
+        × (result.schedules ≡ schedules_for result.blocks) }
 {
     let refusal = p.refusal;
     if refusal != refusals::DONE {

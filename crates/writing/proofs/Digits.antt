@@ -9,11 +9,11 @@ use native.Mathlib.Omega.{arith}
 use lib.ListN.{length, length-append}
 use borrow.Author.Tests.{lt-ltb, le-ltb}
 use Rattle.laws.proofs.Cases.{lt-or-le}
-use Rattle.writing.specs.Text.{ascii, lf, digits, digitsWithin, lineText, item}
+use Rattle.writing.specs.Text.{ascii, lf, digits, digits_within, line_text, item}
 
 -- any two bounds that suffice give the same digits
-enough : (k j n : ℕ) → n ≤ k → n ≤ j → digitsWithin k n ≡ digitsWithin j n
-unfolding digitsWithin
+enough : (k j n : ℕ) → n ≤ k → n ≤ j → digits_within k n ≡ digits_within j n
+unfolding digits_within
 enough zero zero n h g = refl
 enough zero (suc j) n h g = let l : n < 10 = omega arith in rw (lt-ltb n 10 l)
 enough (suc k) zero n h g = let l : n < 10 = omega arith in rw (lt-ltb n 10 l)
@@ -23,13 +23,13 @@ enough (suc k) (suc j) n h g =
     (lt-or-le n 10)
 
 pub digits-one : (n : ℕ) → n < 10 → digits n ≡ (48 + n) ∷ []
-unfolding digits digitsWithin
+unfolding digits digits_within
 digits-one zero h = refl
 digits-one (suc n) h = rw (lt-ltb (suc n) 10 h)
 
 -- of ten or more: those of n / 10, and one more
 pub digits-ten : (n : ℕ) → 10 ≤ n → digits n ≡ digits (n / 10) ++ ((48 + n % 10) ∷ [])
-unfolding digits digitsWithin
+unfolding digits digits_within
 digits-ten zero h = absurd (omega arith)
 digits-ten (suc n) h =
     rw (le-ltb (suc n) 10 h)
@@ -62,8 +62,8 @@ digits-fit (suc k) n h =
 pub item-length : (name : String) (value rest : List ℕ) → length (item name value ++ rest) ≡ length (ascii name) + (length value + length rest)
 item-length name value rest = omega (arith, length-append (item name value) rest, length-append (ascii name) value)
 
-pub line-length : (name : String) (value : List ℕ) → length (lineText name value) ≡ length (ascii name) + (length value + 1)
+pub line-length : (name : String) (value : List ℕ) → length (line_text name value) ≡ length (ascii name) + (length value + 1)
 line-length name value = omega (arith, length-append (ascii name) (value ++ (lf ∷ [])), length-append value (lf ∷ []))
 
-pub line-then : (name : String) (value rest : List ℕ) → length (lineText name value ++ rest) ≡ length (ascii name) + (length value + (1 + length rest))
-line-then name value rest = omega (arith, length-append (lineText name value) rest, line-length name value)
+pub line-then : (name : String) (value rest : List ℕ) → length (line_text name value ++ rest) ≡ length (ascii name) + (length value + (1 + length rest))
+line-then name value rest = omega (arith, length-append (line_text name value) rest, line-length name value)

@@ -6,7 +6,7 @@ use native.Mathlib.Numerals.{add-one}
 use native.Mathlib.Omega.{arith}
 use lib.ListN.{length, get_or, take, drop, set, drop_of_length-le, length-append}
 use lib.Seq.{drop-cons, take-suc, take_all, length-take-le, sets, length-sets, set_comm}
-use Rattle.writing.specs.Text.{digits, hexDigit, hexText}
+use Rattle.writing.specs.Text.{digits, hex_digit, hex_text}
 use Rattle.writing.specs.Writing.{Room, Put}
 use Rattle.writing.proofs.Digits.{digits-one, digits-ten}
 
@@ -77,23 +77,23 @@ put-digit b at n i h e =
 
 -- hex digits
 
-pub length-hex : (l : List ℕ) → length (hexText l) ≡ 2 * length l
-unfolding hexText
+pub length-hex : (l : List ℕ) → length (hex_text l) ≡ 2 * length l
+unfolding hex_text
 length-hex [] = refl
 length-hex (b ∷ l) = omega (arith, length-hex l)
 
-hex-append : (k l : List ℕ) → hexText (k ++ l) ≡ hexText k ++ hexText l
-unfolding hexText
+hex-append : (k l : List ℕ) → hex_text (k ++ l) ≡ hex_text k ++ hex_text l
+unfolding hex_text
 hex-append [] l = refl
-hex-append (b ∷ k) l = ap (λ (t : List ℕ). hexDigit (b / 16) ∷ hexDigit (b % 16) ∷ t) (hex-append k l)
+hex-append (b ∷ k) l = ap (λ (t : List ℕ). hex_digit (b / 16) ∷ hex_digit (b % 16) ∷ t) (hex-append k l)
 
-hex-more : (key : List ℕ) (i : ℕ) → i < length key → hexText (take (i + 1) key) ≡ hexText (take i key) ++ hexText (get_or key i 0 ∷ [])
+hex-more : (key : List ℕ) (i : ℕ) → i < length key → hex_text (take (i + 1) key) ≡ hex_text (take i key) ++ hex_text (get_or key i 0 ∷ [])
 hex-more key i h =
-    ap (λ (n : ℕ). hexText (take n key)) (add-one i) ∙ ap hexText (take-suc key i 0 h) ∙ hex-append (take i key) (get_or key i 0 ∷ [])
+    ap (λ (n : ℕ). hex_text (take n key)) (add-one i) ∙ ap hex_text (take-suc key i 0 h) ∙ hex-append (take i key) (get_or key i 0 ∷ [])
 
 -- bytes by hex digits, of which i are put
-module _ {b b' : List ℕ} {at end : ℕ} (l : List ℕ) (i : ℕ) (room : Room b at (hexText l)) (some : Put b at (hexText (take i l)) b' end) where
-  pub hex-room : (x : ℕ) → i < length l → Room b' end (hexText (x ∷ []))
+module _ {b b' : List ℕ} {at end : ℕ} (l : List ℕ) (i : ℕ) (room : Room b at (hex_text l)) (some : Put b at (hex_text (take i l)) b' end) where
+  pub hex-room : (x : ℕ) → i < length l → Room b' end (hex_text (x ∷ []))
   hex-room x h =
       record {
         fits =
@@ -109,11 +109,11 @@ module _ {b b' : List ℕ} {at end : ℕ} (l : List ℕ) (i : ℕ) (room : Room 
             );
       }
 
-  pub hex-next : i < length l → {b'' : List ℕ} {last : ℕ} → Put b' end (hexText (get_or l i 0 ∷ [])) b'' last → Put b at (hexText (take (i + 1) l)) b'' last
+  pub hex-next : i < length l → {b'' : List ℕ} {last : ℕ} → Put b' end (hex_text (get_or l i 0 ∷ [])) b'' last → Put b at (hex_text (take (i + 1) l)) b'' last
   hex-next h p = put_as (sym (hex-more l i h)) (put_then some p)
 
-  pub hex-whole : length l ≤ i → Put b at (hexText l) b' end
-  hex-whole h = put_as (ap hexText (take_all i l h)) some
+  pub hex-whole : length l ≤ i → Put b at (hex_text l) b' end
+  hex-whole h = put_as (ap hex_text (take_all i l h)) some
 
 -- a line: the name and the value, and then its end
 module _ (name value end : List ℕ) where

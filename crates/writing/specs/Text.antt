@@ -15,25 +15,25 @@ abbrev pub lf : ℕ
 lf = 10
 
 -- decimal digits without leading zeros; 48 is the digit 0. The first argument only bounds how many there are
-unfoldable pub digitsWithin : ℕ → ℕ → List ℕ
-digitsWithin zero n = (48 + n) ∷ []
-digitsWithin (suc k) n = pick (ltb n 10) ((48 + n) ∷ []) (digitsWithin k (n / 10) ++ ((48 + n % 10) ∷ []))
+unfoldable pub digits_within : ℕ → ℕ → List ℕ
+digits_within zero n = (48 + n) ∷ []
+digits_within (suc k) n = pick (ltb n 10) ((48 + n) ∷ []) (digits_within k (n / 10) ++ ((48 + n % 10) ∷ []))
 
 unfoldable pub digits : ℕ → List ℕ
-digits n = digitsWithin n n
+digits n = digits_within n n
 
 -- a half byte as a lower-case digit: 48 is 0, and 97 is a
-unfoldable pub hexDigit : ℕ → ℕ
-hexDigit d = pick (ltb d 10) (48 + d) (87 + d)
+unfoldable pub hex_digit : ℕ → ℕ
+hex_digit d = pick (ltb d 10) (48 + d) (87 + d)
 
 -- each byte by two digits
-unfoldable pub hexText : List ℕ → List ℕ
-hexText [] = []
-hexText (b ∷ bytes) = hexDigit (b / 16) ∷ hexDigit (b % 16) ∷ hexText bytes
+unfoldable pub hex_text : List ℕ → List ℕ
+hex_text [] = []
+hex_text (b ∷ bytes) = hex_digit (b / 16) ∷ hex_digit (b % 16) ∷ hex_text bytes
 
 -- a line: its name, the value's text, LF
-abbrev pub lineText : String → List ℕ → List ℕ
-lineText name value = ascii name ++ (value ++ (lf ∷ []))
+abbrev pub line_text : String → List ℕ → List ℕ
+line_text name value = ascii name ++ (value ++ (lf ∷ []))
 
 -- a name and the value's text
 abbrev pub item : String → List ℕ → List ℕ

@@ -12,5 +12,5 @@ pub record Put (before : List ℕ) (at : ℕ) (text after : List ℕ) (end : ℕ
   pub ends : end ≡ at + length text
 
 -- a text at the front of a buffer, with the bytes after it kept
-abbrev pub atFront : List ℕ → List ℕ → List ℕ
-atFront text buffer = text ++ drop (length text) buffer
+abbrev pub at_front : List ℕ → List ℕ → List ℕ
+at_front text buffer = text ++ drop (length text) buffer

@@ -1,6 +1,6 @@
 // Writers of text: given bytes, decimal and hex digits, lines. Each puts a text into the buffer from a place on, and answers with the place at which it ends.
 ghost use Rattle.std.specs.Prelude.{◌≡◌, [], ◌∷◌, ◌++◌, ◌<◌, length};
-ghost use Rattle.writing.specs.Text.{lf, digits, hexDigit, hexText};
+ghost use Rattle.writing.specs.Text.{lf, digits, hex_digit, hex_text};
 ghost use Rattle.writing.specs.Writing.{Room, Put};
 
 // The given bytes.
@@ -85,7 +85,7 @@ pub fn put_word_line<'a>(buffer: &'a mut [u8], at: usize, name: &'a [u8], word: 
 
 fn hex_digit(d: u8) -> u8
     requires { d < 16 }
-    ensures { result ≡ hexDigit d }
+    ensures { result ≡ hex_digit d }
 {
     if d < 10 {
         return 48 + d;
@@ -95,8 +95,8 @@ fn hex_digit(d: u8) -> u8
 
 // A byte by two hex digits.
 fn put_byte(buffer: &mut [u8], at: usize, b: u8) -> usize
-    requires { Room buffer.old at (hexText (b ∷ [])) }
-    ensures { Put buffer.old at (hexText (b ∷ [])) buffer.new result }
+    requires { Room buffer.old at (hex_text (b ∷ [])) }
+    ensures { Put buffer.old at (hex_text (b ∷ [])) buffer.new result }
 {
     buffer[at] = hex_digit(b / 16);
     buffer[at + 1] = hex_digit(b % 16);
@@ -105,8 +105,8 @@ fn put_byte(buffer: &mut [u8], at: usize, b: u8) -> usize
 
 // Bytes by two hex digits each.
 pub fn put_hex<'a>(buffer: &'a mut [u8], at: usize, bytes: &'a [u8]) -> usize
-    requires { Room buffer.old at (hexText bytes.now) }
-    ensures { Put buffer.old at (hexText bytes.now) buffer.new result }
+    requires { Room buffer.old at (hex_text bytes.now) }
+    ensures { Put buffer.old at (hex_text bytes.now) buffer.new result }
 {
     let mut end = at;
     let mut i = 0;

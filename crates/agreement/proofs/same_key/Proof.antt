@@ -4,19 +4,19 @@ use mathlib.Core.Path.{◌≡◌, refl, sym, ap, ◌∙◌}
 use Prim.Native.Nat.{◌≤◌, ◌-◌}
 use native.Mathlib.Omega.{arith}
 use borrow.Author.Rules.{rules}
-use Rattle.agreement.specs.Agreement.{sameBytes}
+use Rattle.agreement.specs.Agreement.{same_bytes}
 use Rattle.agreement.proofs.Bytes.{byte-same, byte-other}
 use Rattle.agreement.proofs.same_key.Statement.{statement}
 use Rattle.agreement.proofs.same_key.Tie as tie
 
 abbrev invariant-loop : tie.invariant-loop
-invariant-loop a b same₀ i₀ same i = (i ≤ 24) × (same ≡ sameBytes a b i)
+invariant-loop a b same₀ i₀ same i = (i ≤ 24) × (same ≡ same_bytes a b i)
 
 abbrev decreases-loop : tie.decreases-loop
 decreases-loop a b same₀ i₀ same i = 24 - i
 
 loop-holds : tie.Need-loop-init invariant-loop decreases-loop
-unfolding sameBytes
+unfolding same_bytes
 loop-holds c = (search rules, refl)
 
 loop-again : tie.Need-loop-preserved invariant-loop decreases-loop
@@ -32,7 +32,7 @@ returns : tie.Need-returns invariant-loop decreases-loop
 returns c =
     let loop = c.before.loop in
     let z : loop.i ≡ 24 = omega arith in
-    loop.invariant.1 ∙ ap (sameBytes c.before.before.args.t1 c.before.before.args.t2) z
+    loop.invariant.1 ∙ ap (same_bytes c.before.before.args.t1 c.before.before.args.t2) z
 
 pub same-key-spec : {M : Type 1} → statement M
 same-key-spec =

@@ -1,11 +1,11 @@
 -- `bench::keyed_refusal`: each test is the definition's, and so is their order. Assumes nothing.
 use borrow.Author.Rules.{rules}
-use Rattle.bench.specs.Bench.{keyedRefusal}
+use Rattle.bench.specs.Bench.{keyed_refusal}
 use Rattle.bench.proofs.keyed_refusal.Statement.{statement}
 use Rattle.bench.proofs.keyed_refusal.Tie as tie
 
 returns : tie.Need-returns
-unfolding keyedRefusal
+unfolding keyed_refusal
 returns c =
     let two = c.before in
     let one = two.before in

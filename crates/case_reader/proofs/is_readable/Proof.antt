@@ -2,12 +2,12 @@
 use mathlib.Core.Path.{◌∙◌}
 use mathlib.Core.Bool.{◌&&◌}
 use borrow.Author.Rules.{rules}
-use Rattle.case_reader.specs.Case.{isReadable}
+use Rattle.case_reader.specs.Case.{is_readable}
 use Rattle.case_reader.proofs.is_readable.Statement.{statement}
 use Rattle.case_reader.proofs.is_readable.Tie as tie
 
 returns : tie.Need-returns
-unfolding isReadable
+unfolding is_readable
 returns c = c.both.ensures ∙ (λ i. c.before.before.numbers-readable.ensures i && c.before.bytes-readable.ensures i)
 
 pub is-readable-spec : {M : Type 1} → statement M

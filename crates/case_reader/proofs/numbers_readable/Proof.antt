@@ -2,12 +2,12 @@
 use mathlib.Core.Path.{◌∙◌}
 use mathlib.Core.Bool.{◌&&◌}
 use borrow.Author.Rules.{rules}
-use Rattle.case_reader.specs.Case.{numbersReadable}
+use Rattle.case_reader.specs.Case.{numbers_readable}
 use Rattle.case_reader.proofs.numbers_readable.Statement.{statement}
 use Rattle.case_reader.proofs.numbers_readable.Tie as tie
 
 returns : tie.Need-returns
-unfolding numbersReadable
+unfolding numbers_readable
 returns c =
     let last = c.before.before in
     let four = last.before in

@@ -7,7 +7,7 @@ use lib.Seq.{length-take-le}
 use borrow.Author.Rules.{rules}
 use Rattle.writing.specs.Text.{lf}
 use Rattle.writing.proofs.Puts.{put-length, put_as}
-use Rattle.cases.specs.Answer.{caseText}
+use Rattle.cases.specs.Answer.{case_text}
 use Rattle.lines.proofs.Pieces.{index-within}
 use Rattle.cases.proofs.Texts.{text-cut, text-line}
 use Rattle.cases.proofs.put_answer.Statement.{statement}
@@ -28,7 +28,7 @@ returns-2 c =
     let put = c.before.before.put-case.ensures in
     let s = c.before.before.before.before.before.before.before.before.before.args.s.now in
     let e = c.before.before.before.before.before.before.index_of.ensures in
-    (put.0, put_as (ap (λ (n : ℕ). caseText (take n s)) e ∙ text-line s (λ z. c.before.before.before.before.before.if1.false (e ∙ z))) put.1)
+    (put.0, put_as (ap (λ (n : ℕ). case_text (take n s)) e ∙ text-line s (λ z. c.before.before.before.before.before.if1.false (e ∙ z))) put.1)
 
 pub put-answer-spec : {M : Type 1} → statement M
 put-answer-spec =

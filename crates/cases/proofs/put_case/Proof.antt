@@ -7,7 +7,7 @@ use borrow.Author.Rules.{rules}
 use borrow.Author.Tests.{not-true, not-false}
 use Rattle.writing.proofs.Puts.{put-length, put_as}
 use Rattle.case_reader.specs.Case.{Accepted}
-use Rattle.cases.specs.Answer.{refusedText, answerRoom}
+use Rattle.cases.specs.Answer.{refused_text, answer_room}
 use Rattle.cases.proofs.Texts.{text-unreadable, text-refused, text-accepted, accepted-fits, refused-fits}
 use Rattle.cases.proofs.put_case.Statement.{statement}
 use Rattle.cases.proofs.put_case.Tie as tie
@@ -17,7 +17,7 @@ returns c =
     let put = c.before.before.put-bytes.ensures in
     (omega (arith, put.ends), put_as (text-unreadable _ (sym c.before.before.before.before.before.before.is-readable.ensures ∙ not-true _ c.before.before.before.before.before.if1.true)) put)
 
-short : (c : tie.After-case-refusal) → length (refusedText c.case-refusal.result) ≤ answerRoom
+short : (c : tie.After-case-refusal) → length (refused_text c.case-refusal.result) ≤ answer_room
 short c = refused-fits c.case-refusal.result (omega arith)
 
 put-line-requires : tie.Need-put-line-requires
@@ -28,7 +28,7 @@ returns-2 c =
     let put = c.before.before.put-line.ensures in
     let refused = c.before.before.before.before.before.before.case-refusal.ensures in
     let readable = sym c.before.before.before.before.before.before.before.before.is-readable.ensures ∙ not-false _ c.before.before.before.before.before.before.before.if1.false in
-    (omega (arith, put.ends, short c.before.before.before.before.before.before), put_as (ap refusedText refused ∙ text-refused _ readable (λ z. c.before.before.before.before.before.if2.true (refused ∙ z))) put)
+    (omega (arith, put.ends, short c.before.before.before.before.before.before), put_as (ap refused_text refused ∙ text-refused _ readable (λ z. c.before.before.before.before.before.if2.true (refused ∙ z))) put)
 
 accepted : (c : tie.Else2) → Accepted c.before.before.before.before.before.before.args.line.now
 accepted c =

@@ -2,7 +2,7 @@
 use mathlib.Core.Bool.{not}
 use mathlib.Core.Path.{◌≡◌, sym, ap, ◌∙◌}
 use borrow.Author.Rules.{rules}
-use Rattle.slot_calls.specs.Seen.{slotAs}
+use Rattle.slot_calls.specs.Seen.{slot_as}
 use Rattle.agreement.specs.Agreement.{agrees}
 use Rattle.conversion_pairs.specs.Pairs.{differs}
 use Rattle.conversion_pairs.proofs.differs.Statement.{statement}
@@ -18,7 +18,7 @@ returns c =
     let args = from.before.before.args in
     ap not
     (c.agrees.ensures
-    ∙ (λ i. agrees ((old.slot-or-empty.ensures ∙ ap (slotAs args.before) from.number-on.ensures) i) ((new.slot-or-empty2.ensures ∙ ap (slotAs args.after) to.number-on2.ensures) i)))
+    ∙ (λ i. agrees ((old.slot-or-empty.ensures ∙ ap (slot_as args.before) from.number-on.ensures) i) ((new.slot-or-empty2.ensures ∙ ap (slot_as args.after) to.number-on2.ensures) i)))
 
 pub differs-spec : {M : Type 1} → statement M
 differs-spec =

@@ -3,25 +3,25 @@ use mathlib.Core.Path.{◌≡◌, sym, ap, ◌∙◌}
 use Prim.Native.Nat.{◌≤◌, ◌-◌}
 use native.Mathlib.Omega.{arith}
 use borrow.Author.Rules.{rules}
-use Rattle.conversion_pairs.specs.Pairs.{pairCount, faulty, firstFrom, firstFaulty}
+use Rattle.conversion_pairs.specs.Pairs.{pair_count, faulty, first_from, first_faulty}
 use Rattle.conversion_pairs.proofs.Steps.{first-here, first_next, first-end}
 use Rattle.conversion_pairs.proofs.first_faulty.Statement.{statement}
 use Rattle.conversion_pairs.proofs.first_faulty.Tie as tie
 
 abbrev invariant-loop : tie.invariant-loop
 invariant-loop naming before after pairs count i₀ i =
-    (i ≤ count) × (count ≡ pairCount pairs) × (firstFaulty naming before after pairs ≡ firstFrom (faulty naming before after pairs) i (count - i))
+    (i ≤ count) × (count ≡ pair_count pairs) × (first_faulty naming before after pairs ≡ first_from (faulty naming before after pairs) i (count - i))
 
 abbrev decreases-loop : tie.decreases-loop
 decreases-loop naming before after pairs count i₀ i = count - i
 
 loop-holds : tie.Need-loop-init invariant-loop decreases-loop
-unfolding firstFaulty
+unfolding first_faulty
 loop-holds c =
     let count = c.pair-count.ensures in
     let args = c.before.before.args in
-    let z : pairCount args.pairs.now ≡ c.pair-count.result - 0 = omega (arith, count) in
-    (search rules, count, ap (firstFrom (faulty args.naming args.before args.after args.pairs.now) 0) z)
+    let z : pair_count args.pairs.now ≡ c.pair-count.result - 0 = omega (arith, count) in
+    (search rules, count, ap (first_from (faulty args.naming args.before args.after args.pairs.now) 0) z)
 
 returns : tie.Need-returns invariant-loop decreases-loop
 returns c =

@@ -4,19 +4,19 @@ use mathlib.Core.Path.{◌≡◌, refl, sym, ap, ◌∙◌}
 use Prim.Native.Nat.{◌≤◌, ◌-◌}
 use native.Mathlib.Omega.{arith}
 use borrow.Author.Rules.{rules}
-use Rattle.conversion_pairs.specs.Pairs.{namedOn}
+use Rattle.conversion_pairs.specs.Pairs.{named_on}
 use Rattle.conversion_pairs.proofs.Steps.{named_here, named-not}
 use Rattle.conversion_pairs.proofs.is_named.Statement.{statement}
 use Rattle.conversion_pairs.proofs.is_named.Tie as tie
 
 abbrev invariant-loop : tie.invariant-loop
-invariant-loop side pairs n count named₀ i₀ named i = (i ≤ count) × (named ≡ namedOn side pairs n i)
+invariant-loop side pairs n count named₀ i₀ named i = (i ≤ count) × (named ≡ named_on side pairs n i)
 
 abbrev decreases-loop : tie.decreases-loop
 decreases-loop side pairs n count named₀ i₀ named i = count - i
 
 loop-holds : tie.Need-loop-init invariant-loop decreases-loop
-unfolding namedOn
+unfolding named_on
 loop-holds c = (search rules, refl)
 
 loop-again : tie.Need-loop-preserved invariant-loop decreases-loop
@@ -33,7 +33,7 @@ returns : tie.Need-returns invariant-loop decreases-loop
 returns c =
     let args = c.before.before.before.args in
     let z : c.before.loop.i ≡ args.count = omega arith in
-    c.before.loop.invariant.1 ∙ ap (namedOn args.side args.pairs.now args.n) z
+    c.before.loop.invariant.1 ∙ ap (named_on args.side args.pairs.now args.n) z
 
 pub is-named-spec : {M : Type 1} → statement M
 is-named-spec =

@@ -4,19 +4,19 @@ use mathlib.Core.Path.{◌≡◌, refl, sym, ap, ◌∙◌}
 use Prim.Native.Nat.{◌≤◌, ◌-◌}
 use native.Mathlib.Omega.{arith}
 use borrow.Author.Rules.{rules}
-use Rattle.conversion_pairs.specs.Pairs.{leavesOut}
+use Rattle.conversion_pairs.specs.Pairs.{leaves_out}
 use Rattle.conversion_pairs.proofs.Steps.{out-here, out-not}
 use Rattle.conversion_pairs.proofs.leaves_out.Statement.{statement}
 use Rattle.conversion_pairs.proofs.leaves_out.Tie as tie
 
 abbrev invariant-loop : tie.invariant-loop
-invariant-loop after pairs out₀ i₀ out i = (i ≤ 32) × (out ≡ leavesOut after pairs i)
+invariant-loop after pairs out₀ i₀ out i = (i ≤ 32) × (out ≡ leaves_out after pairs i)
 
 abbrev decreases-loop : tie.decreases-loop
 decreases-loop after pairs out₀ i₀ out i = 32 - i
 
 loop-holds : tie.Need-loop-init invariant-loop decreases-loop
-unfolding leavesOut
+unfolding leaves_out
 loop-holds c = (search rules, refl)
 
 loop-again : tie.Need-loop-preserved invariant-loop decreases-loop
@@ -33,7 +33,7 @@ returns : tie.Need-returns invariant-loop decreases-loop
 returns c =
     let args = c.before.before.before.args in
     let z : c.before.loop.i ≡ 32 = omega arith in
-    c.before.loop.invariant.1 ∙ ap (leavesOut args.after args.pairs.now) z
+    c.before.loop.invariant.1 ∙ ap (leaves_out args.after args.pairs.now) z
 
 pub leaves-out-spec : {M : Type 1} → statement M
 leaves-out-spec =

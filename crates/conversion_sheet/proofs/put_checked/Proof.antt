@@ -5,16 +5,16 @@ use Prim.Native.Nat.{◌≤◌}
 use native.Mathlib.Omega.{arith}
 use borrow.Author.Rules.{rules}
 use lib.ListN.{length}
-use Rattle.writing.specs.Text.{digits, item, lineText}
+use Rattle.writing.specs.Text.{digits, item, line_text}
 use Rattle.writing.specs.Writing.{Room}
 use Rattle.writing.proofs.Puts.{put_as, put-length}
 use Rattle.writing.proofs.Left.{left-all, left-room, left-next, left-last, next-room}
-use Rattle.conversion_sheet.specs.Report.{reportRoom}
+use Rattle.conversion_sheet.specs.Report.{report_room}
 use Rattle.conversion_sheet.proofs.Texts.{text-passed, text-refused, passed-short, refused-short}
 use Rattle.conversion_sheet.proofs.put_checked.Statement.{statement}
 use Rattle.conversion_sheet.proofs.put_checked.Tie as tie
 
-passed : (c : tie.Start) → length (lineText "converted=" (digits c.args.count)) ≤ reportRoom
+passed : (c : tie.Start) → length (line_text "converted=" (digits c.args.count)) ≤ report_room
 passed c = passed-short c.args.count (omega arith)
 
 put-line-requires : tie.Need-put-line-requires
@@ -29,10 +29,10 @@ returns c =
     (omega (arith, put.ends, passed start), put_as (sym (text-passed start.args.c start.args.count test.if1.true)) put)
 
 -- refused
-refused : (c : tie.Start) → length (item "refused=" (digits c.args.c.refusal) ++ lineText " pair=" (digits c.args.c.place)) ≤ reportRoom
+refused : (c : tie.Start) → length (item "refused=" (digits c.args.c.refusal) ++ line_text " pair=" (digits c.args.c.place)) ≤ report_room
 refused c = refused-short c.args.c.refusal c.args.c.place (omega arith) (omega arith)
 
-whole : (c : tie.Start) → Room c.args.buffer.now 0 (item "refused=" (digits c.args.c.refusal) ++ lineText " pair=" (digits c.args.c.place))
+whole : (c : tie.Start) → Room c.args.buffer.now 0 (item "refused=" (digits c.args.c.refusal) ++ line_text " pair=" (digits c.args.c.place))
 whole c = record { fits = omega (arith, refused c) }
 
 put-item-requires : tie.Need-put-item-requires

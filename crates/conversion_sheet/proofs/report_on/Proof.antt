@@ -7,11 +7,11 @@ use borrow.Author.Rules.{rules}
 use borrow.Author.Tests.{lt-ltb, le-ltb}
 use lib.ListN.{length, take, drop, replicate, length-drop}
 use lib.Seq.{take_all, take_at, length-take-le}
-use Rattle.conversion_pairs.specs.Pairs.{pairCount}
-use Rattle.conversion.specs.Conversion.{conversionChecked}
+use Rattle.conversion_pairs.specs.Pairs.{pair_count}
+use Rattle.conversion.specs.Conversion.{conversion_checked}
 use Rattle.conversion_sheet.specs.declared.input.Numbers.{Numbers}
-use Rattle.conversion_sheet.specs.Input.{textSize, firstText, behind, pairNumbers, pairsRead}
-use Rattle.conversion_sheet.specs.Report.{conversionReport, reportOf, checkedText}
+use Rattle.conversion_sheet.specs.Input.{text_size, first_text, behind, pair_numbers, pairs_read}
+use Rattle.conversion_sheet.specs.Report.{conversion_report, report_of, checked_text}
 use Rattle.conversion_sheet.proofs.Texts.{front-within}
 use Rattle.conversion_sheet.proofs.report_on.Statement.{statement}
 use Rattle.conversion_sheet.proofs.report_on.Tie as tie
@@ -49,19 +49,19 @@ module _ (c : tie.After-read-pairs) where
   abbrev lines : List ℕ
   lines = take (length (rest part) - at) (drop at (rest part))
 
-  size_is : second.text-size2.result ≡ textSize (behind (input part))
-  size_is = second.text-size2.ensures.0 ∙ ap textSize (rest-is part)
+  size_is : second.text-size2.result ≡ text_size (behind (input part))
+  size_is = second.text-size2.ensures.0 ∙ ap text_size (rest-is part)
 
   lines_are : lines ≡ behind (behind (input part))
   lines_are =
       take_all (length (rest part) - at) (drop at (rest part)) (simp length-drop (omega arith))
       ∙ (c.before.before.behind-text2.ensures.1 ∙ (λ i. drop (suc (size_is i)) (rest-is part i)))
 
-  pairs-are : c.read_pairs.result ≡ pairsRead (behind (behind (input part)))
-  pairs-are = c.read_pairs.ensures ∙ ap pairsRead lines_are
+  pairs-are : c.read_pairs.result ≡ pairs_read (behind (behind (input part)))
+  pairs-are = c.read_pairs.ensures ∙ ap pairs_read lines_are
 
   abbrev pairs : List ℕ
-  pairs = pairNumbers (behind (behind (input part)))
+  pairs = pair_numbers (behind (behind (input part)))
 
   few : c.read_pairs.result.count ≤ length c.read_pairs.result.numbers
   few = subst (λ (n : Numbers). n.count ≤ length n.numbers) (sym pairs-are) (front-within pairs (replicate 66 0))
@@ -73,7 +73,7 @@ module _ (c : tie.After-read-pairs) where
   prefix = sym (length-take-le c.read_pairs.result.count c.read_pairs.result.numbers few)
 
 returns : tie.Need-returns
-unfolding conversionReport
+unfolding conversion_report
 returns c = rw (lt-ltb _ _ c.before.if1.true) c.report-of.ensures
 
 slice-aggregate-check : tie.Need-slice-aggregate-check
@@ -85,7 +85,7 @@ slice-aggregate-check-2 : tie.Need-slice-aggregate-check-2
 slice-aggregate-check-2 c = sym (length-take-le _ _ c.before.before.before.before.before.before.text-size2.ensures.1)
 
 returns-2 : tie.Need-returns-2
-unfolding conversionReport
+unfolding conversion_report
 returns-2 c =
     let count = c.before in
     let check = count.before.before in
@@ -94,9 +94,9 @@ returns-2 c =
     let first = part.before.before in
     rw (le-ltb _ _ first.before.if1.false)
     (c.report-of2.ensures
-    ∙ ((λ i. reportOf (checkedText (check.check.ensures i) (count.pair-count.ensures i)))
-    ∙ (λ i. reportOf
-    (checkedText (conversionChecked (take (first.text-size.ensures.0 i) (input part)) (take (size_is pairs i) (rest-is part i)) (numbers-are pairs i)) (pairCount (numbers-are pairs i))))))
+    ∙ ((λ i. report_of (checked_text (check.check.ensures i) (count.pair-count.ensures i)))
+    ∙ (λ i. report_of
+    (checked_text (conversion_checked (take (first.text-size.ensures.0 i) (input part)) (take (size_is pairs i) (rest-is part i)) (numbers-are pairs i)) (pair_count (numbers-are pairs i))))))
 
 pub report-on-spec : {M : Type 1} → statement M
 report-on-spec =

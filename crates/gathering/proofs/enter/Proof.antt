@@ -2,8 +2,8 @@
 use mathlib.Core.Path.{◌≡◌, sym, ap, ◌∙◌}
 use borrow.Author.Rules.{rules}
 use borrow.Author.Tests.{eq-eqb, ne_eqb}
-use Rattle.slots.specs.Slots.{isFilled}
-use Rattle.gathering.specs.Gathering.{entered, gatheredTo}
+use Rattle.slots.specs.Slots.{is_filled}
+use Rattle.gathering.specs.Gathering.{entered, gathered_to}
 use Rattle.gathering.proofs.Gathers.{enter-free}
 use Rattle.gathering.proofs.enter.Statement.{statement}
 use Rattle.gathering.proofs.enter.Tie as tie
@@ -17,7 +17,7 @@ unfolding entered
 returns-2 c =
     let test = c.before.before in
     let slot = test.before in
-    rw (eq-eqb _ _ slot.before.if1.false, ap isFilled (sym slot.slot-or-empty.ensures) ∙ sym test.is-filled.ensures ∙ c.before.if2.true)
+    rw (eq-eqb _ _ slot.before.if1.false, ap is_filled (sym slot.slot-or-empty.ensures) ∙ sym test.is-filled.ensures ∙ c.before.if2.true)
     c.not-gathered2.ensures
 
 with-slot-requires : tie.Need-with-slot-requires
@@ -30,8 +30,8 @@ returns-3 c =
     let test = c.before.before.before.before.before in
     let slot = test.before in
     c.gathered-to.ensures
-    ∙ (ap gatheredTo c.before.with-slot.ensures
-    ∙ sym (enter-free _ _ slot.before.if1.false (ap isFilled (sym slot.slot-or-empty.ensures) ∙ sym test.is-filled.ensures ∙ c.before.before.before.before.if2.false)))
+    ∙ (ap gathered_to c.before.with-slot.ensures
+    ∙ sym (enter-free _ _ slot.before.if1.false (ap is_filled (sym slot.slot-or-empty.ensures) ∙ sym test.is-filled.ensures ∙ c.before.before.before.before.if2.false)))
 
 pub enter_spec : {M : Type 1} → statement M
 enter_spec =

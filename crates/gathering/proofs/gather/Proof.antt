@@ -9,25 +9,25 @@ use borrow.Author.Tests.{not-true, not-false}
 use lib.ListN.{length, drop, length-drop}
 use lib.Seq.{take_all, drop-drop}
 use Rattle.refusals.specs.Numbers.{done}
-use Rattle.fields.specs.Fields.{isSlotNumber}
+use Rattle.fields.specs.Fields.{is_slot_number}
 use Rattle.record_reader.specs.declared.RecordRead.{RecordRead}
-use Rattle.record_reader.specs.Record.{recordRead}
+use Rattle.record_reader.specs.Record.{record_read}
 use Rattle.loading.proofs.Loads.{taken}
 use Rattle.gathering.specs.declared.Gathered.{Gathered}
-use Rattle.gathering.specs.Gathering.{entered, gatherOn, gathered}
+use Rattle.gathering.specs.Gathering.{entered, gather_on, gathered}
 use Rattle.gathering.proofs.Gathers.{read_number, enters, gather-end, gather-stops, gather-next}
 use Rattle.gathering.proofs.gather.Statement.{statement}
 use Rattle.gathering.proofs.gather.Tie as tie
 
 abbrev invariant-loop : tie.invariant-loop
-invariant-loop text table₀ at₀ table at = (at ≤ length text) × (gathered text ≡ gatherOn table (drop at text))
+invariant-loop text table₀ at₀ table at = (at ≤ length text) × (gathered text ≡ gather_on table (drop at text))
 
 abbrev decreases-loop : tie.decreases-loop
 decreases-loop text table₀ at₀ table at = length text - at
 
 loop-holds : tie.Need-loop-init invariant-loop decreases-loop
 unfolding gathered
-loop-holds c = (search rules, ap (λ t. gatherOn t c.before.before.args.text.now) (sym c.empty-table.ensures))
+loop-holds c = (search rules, ap (λ t. gather_on t c.before.before.args.text.now) (sym c.empty-table.ensures))
 
 part-starts : tie.Need-slice-bounds-read-record-start invariant-loop decreases-loop
 part-starts c = search rules
@@ -46,15 +46,15 @@ module _ (c : tie.After-read-record invariant-loop decreases-loop) where
   some : 0 < length rest
   some = simp length-drop (omega (arith, c.before.before.loop-test.true))
 
-  read_is : c.read-record.result ≡ recordRead rest
-  read_is = c.read-record.ensures ∙ ap recordRead (take_all (length text - here.loop.at) rest (simp length-drop (omega arith)))
+  read_is : c.read-record.result ≡ record_read rest
+  read_is = c.read-record.ensures ∙ ap record_read (take_all (length text - here.loop.at) rest (simp length-drop (omega arith)))
 
 enter-requires : tie.Need-enter-requires invariant-loop decreases-loop
 enter-requires c κs =
-    subst (λ (x : RecordRead). x.refusal ≡ done → isSlotNumber x.number ≡ true) (sym (read_is c)) (read_number (rest c))
+    subst (λ (x : RecordRead). x.refusal ≡ done → is_slot_number x.number ≡ true) (sym (read_is c)) (read_number (rest c))
 
 -- it is entered
-entered-is : (c : tie.After-enter invariant-loop decreases-loop) → c.enter.result ≡ entered (here c.before).loop.table (recordRead (rest c.before))
+entered-is : (c : tie.After-enter invariant-loop decreases-loop) → c.enter.result ≡ entered (here c.before).loop.table (record_read (rest c.before))
 entered-is c = c.enter.ensures ∙ ap (entered (here c.before).loop.table) (read_is c.before)
 
 returns : tie.Need-returns invariant-loop decreases-loop
@@ -73,7 +73,7 @@ module _ (c : tie.After-more invariant-loop decreases-loop) where
   abbrev read : tie.After-read-record invariant-loop decreases-loop
   read = enter.before
 
-  good : (entered (here read).loop.table (recordRead (rest read))).good ≡ true
+  good : (entered (here read).loop.table (record_read (rest read))).good ≡ true
   good = ap (λ (g : Gathered). g.good) (sym (entered-is enter)) ∙ not-false _ c.before.if1.false
 
   onward : (0 < read.read-record.result.used) × ((here read).loop.at + read.read-record.result.used ≤ length (text read))
@@ -95,8 +95,8 @@ loop-again c =
       o.1,
       (here (read c)).loop.inv.1
           ∙ gather-next _ (rest (read c)) (some (read c)) (good c)
-          ∙ (λ i. gatherOn (sym (entered-is (enter c)) i).table (drop (sym (read_is (read c)) i).used (rest (read c))))
-          ∙ ap (gatherOn _) (drop-drop (read c).read-record.result.used at (text (read c))),
+          ∙ (λ i. gather_on (sym (entered-is (enter c)) i).table (drop (sym (read_is (read c)) i).used (rest (read c))))
+          ∙ ap (gather_on _) (drop-drop (read c).read-record.result.used at (text (read c))),
     )
 
 returns-2 : tie.Need-returns-2 invariant-loop decreases-loop

@@ -1,13 +1,13 @@
 -- `gf256::s_box_table`: the table's rule, by one test of 256 entries. Assumes nothing.
 use mathlib.Core.Path.{refl}
-use Rattle.gf256.specs.Field.{inverse, affine, sBox, sBoxes}
+use Rattle.gf256.specs.Field.{inverse, affine, s_box, s_boxes}
 use Rattle.gf256.proofs.Table.{table_of}
 use Rattle.gf256.proofs.s_box_table.Statement.{statement}
 use Rattle.gf256.proofs.s_box_table.Tie as tie
 
 returns : tie.Need-returns
-unfolding sBoxes sBox affine inverse
-returns c = table_of _ sBox refl tt
+unfolding s_boxes s_box affine inverse
+returns c = table_of _ s_box refl tt
 
 pub s-box-table-spec : {M : Type 1} → statement M
 s-box-table-spec = tie.close (tie.spec returns)

@@ -2,24 +2,24 @@
 use native.Mathlib.Omega.{arith}
 use borrow.Author.Rules.{rules}
 use borrow.Author.Tests.{le-leb, lt-leb}
-use Rattle.forms.specs.Hexes.{hexOr, isHex, hexValue}
+use Rattle.forms.specs.Hexes.{hex_or, is_hex, hex_value}
 use Rattle.hex_reading.proofs.hex_value.Statement.{statement}
 use Rattle.hex_reading.proofs.hex_value.Tie as tie
 
 returns : tie.Need-returns
-unfolding hexOr isHex hexValue
+unfolding hex_or is_hex hex_value
 returns c = rw (lt-leb _ _ c.if1.true, lt-leb 97 c.before.args.c (omega arith))
 
 returns-2 : tie.Need-returns-2
-unfolding hexOr isHex hexValue
+unfolding hex_or is_hex hex_value
 returns-2 c = rw (le-leb _ _ c.before.if1.false, le-leb _ _ c.if2.true)
 
 returns-3 : tie.Need-returns-3
-unfolding hexOr isHex hexValue
+unfolding hex_or is_hex hex_value
 returns-3 c = rw (le-leb _ _ c.before.before.if1.false, lt-leb _ _ c.before.if2.false, lt-leb _ _ c.if3.true)
 
 returns-4 : tie.Need-returns-4
-unfolding hexOr isHex hexValue
+unfolding hex_or is_hex hex_value
 returns-4 c =
     rw (
       le-leb _ _ c.before.before.before.if1.false,
@@ -29,7 +29,7 @@ returns-4 c =
     )
 
 returns-5 : tie.Need-returns-5
-unfolding hexOr isHex hexValue
+unfolding hex_or is_hex hex_value
 returns-5 c =
     rw (
       le-leb _ _ c.before.before.before.if1.false,

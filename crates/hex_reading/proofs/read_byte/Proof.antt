@@ -3,7 +3,7 @@ use mathlib.Core.Path.{sym, ap, ◌∙◌}
 use Prim.Native.Nat.{◌<◌}
 use native.Mathlib.Omega.{arith}
 use borrow.Author.Rules.{rules}
-use Rattle.forms.specs.Hexes.{halfByte, byte}
+use Rattle.forms.specs.Hexes.{half_byte, byte}
 use Rattle.reading.specs.Reading.{answer}
 use Rattle.forms.proofs.Hexes.{half-small}
 use Rattle.reading.proofs.Steps.{on-wrong, on-good, on_then, on_value, step-done}
@@ -18,7 +18,7 @@ returns c =
     ∙ sym (ap answer (on_then _ _ _ _ low.before.read-half.ensures ∙ on_then _ _ _ _ low.read-half2.ensures ∙ on-wrong _ _ _ c.before.if1.true))
 
 mul-good-to : tie.Need-overflow-mul-good-to
-mul-good-to c = record { fits = omega (arith, on_value (λ v. v < 16) _ halfByte _ c.before.before.before.before.read-half.ensures (omega arith) half-small) }
+mul-good-to c = record { fits = omega (arith, on_value (λ v. v < 16) _ half_byte _ c.before.before.before.before.read-half.ensures (omega arith) half-small) }
 
 add-good-to : tie.Need-overflow-add-good-to
 add-good-to c =
@@ -27,8 +27,8 @@ add-good-to c =
       fits =
           omega (
             arith,
-            on_value (λ v. v < 16) _ halfByte _ low.before.read-half.ensures (omega arith) half-small,
-            on_value (λ v. v < 16) _ halfByte _ low.read-half2.ensures (omega arith) half-small,
+            on_value (λ v. v < 16) _ half_byte _ low.before.read-half.ensures (omega arith) half-small,
+            on_value (λ v. v < 16) _ half_byte _ low.read-half2.ensures (omega arith) half-small,
           );
     }
 

@@ -1,12 +1,12 @@
 -- `inv_bytes::inv_mixed_byte`: by the products' contracts. Assumes nothing.
 use borrow.Author.Rules.{rules}
 use lib.Bits.{bit_xor}
-use Rattle.inv_bytes.specs.Bytes.{invMixedByte}
+use Rattle.inv_bytes.specs.Bytes.{inv_mixed_byte}
 use Rattle.inv_bytes.proofs.inv_mixed_byte.Statement.{statement}
 use Rattle.inv_bytes.proofs.inv_mixed_byte.Tie as tie
 
 returns : tie.Need-returns
-unfolding invMixedByte
+unfolding inv_mixed_byte
 returns c =
     λ i.
     bit_xor (bit_xor (bit_xor (c.before.before.before.product.ensures i) (c.before.before.product2.ensures i)) (c.before.product3.ensures i))

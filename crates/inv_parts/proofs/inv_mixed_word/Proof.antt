@@ -1,11 +1,11 @@
 -- `inv_parts::inv_mixed_word`: by the callees' contracts. Assumes nothing.
 use borrow.Author.Rules.{rules}
-use Rattle.inv_parts.specs.Schedule.{invMixedWord}
+use Rattle.inv_parts.specs.Schedule.{inv_mixed_word}
 use Rattle.inv_parts.proofs.inv_mixed_word.Statement.{statement}
 use Rattle.inv_parts.proofs.inv_mixed_word.Tie as tie
 
 returns : tie.Need-returns
-unfolding invMixedWord
+unfolding inv_mixed_word
 returns c = cc
 
 pub inv-mixed-word-spec : {M : Type 1} → statement M

@@ -3,7 +3,7 @@ use mathlib.Core.Path.{refl, ap}
 use Prim.Native.Nat.{◌+◌, ◌-◌, ◌%◌}
 use borrow.Author.Rules.{rules}
 use Rattle.round_steps.specs.Steps.{shift_of}
-use Rattle.inv_parts.specs.Steps.{invShiftRow}
+use Rattle.inv_parts.specs.Steps.{inv_shift_row}
 use Rattle.laws.proofs.States.{Columns, columns-none, columns-more, columns-all, state-shape}
 use Rattle.laws.proofs.InRows.{not-turned}
 use Rattle.laws.specs.Lists.{cell}
@@ -11,7 +11,7 @@ use Rattle.inv_parts.proofs.inv_shift_row.Statement.{statement}
 use Rattle.inv_parts.proofs.inv_shift_row.Tie as tie
 
 pub inv-shift-row-spec : {M : Type 1} → statement M
-unfolding invShiftRow
+unfolding inv_shift_row
 inv-shift-row-spec =
     tie.close
     (tie.spec

@@ -8,13 +8,13 @@ use lib.ListN.{get_or}
 use lib.Seq.{get_or-set_other}
 use Rattle.laws.specs.Lists.{Filled}
 use Rattle.laws.proofs.Lists.{fill_more}
-use Rattle.inv_parts.specs.Schedule.{invMixedWord, mixedBack}
+use Rattle.inv_parts.specs.Schedule.{inv_mixed_word, mixed_back}
 use Rattle.inv_parts.proofs.MixedBack.{first-stays, between-mixed, all-mixed}
 use Rattle.inv_parts.proofs.mix_back.Statement.{statement}
 use Rattle.inv_parts.proofs.mix_back.Tie as tie
 
 abbrev invariant-loop : tie.invariant-loop
-invariant-loop w₀ i₀ w i = ((8 ≤ i) × (i ≤ 112)) × (Filled (λ k. mixedBack k (get_or w₀ k 0)) 0 120 w i × ((k : ℕ) → i ≤ k → get_or w k 0 ≡ get_or w₀ k 0))
+invariant-loop w₀ i₀ w i = ((8 ≤ i) × (i ≤ 112)) × (Filled (λ k. mixed_back k (get_or w₀ k 0)) 0 120 w i × ((k : ℕ) → i ≤ k → get_or w k 0 ≡ get_or w₀ k 0))
 
 abbrev decreases-loop : tie.decreases-loop
 decreases-loop w₀ i₀ w i = 112 - i
@@ -31,7 +31,7 @@ loop-again c =
     let h : i < 112 = c.before.before.loop-test.true in (
       search rules,
       (
-        fill_more g.1.0 (search rules) _ (c.inv-mixed-word.ensures ∙ ap invMixedWord (g.1.1 i (omega arith)) ∙ between-mixed i _ g.0.0 h),
+        fill_more g.1.0 (search rules) _ (c.inv-mixed-word.ensures ∙ ap inv_mixed_word (g.1.1 i (omega arith)) ∙ between-mixed i _ g.0.0 h),
         λ k l. get_or-set_other at.loop.w i k c.inv-mixed-word.result 0 (λ q. omega arith) ∙ g.1.1 k (omega arith),
       ),
     )

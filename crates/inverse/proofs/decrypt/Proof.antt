@@ -3,25 +3,25 @@ use mathlib.Core.Path.{◌≡◌, refl, ap, ◌∙◌}
 use Prim.Native.Nat.{◌-◌, ◌≤◌}
 use native.Mathlib.Omega.{arith}
 use borrow.Author.Rules.{rules}
-use Rattle.inverse.specs.Decipher.{invRoundOf, invRounds, decrypted}
+use Rattle.inverse.specs.Decipher.{inv_round_of, inv_rounds, decrypted}
 use Rattle.inverse.proofs.Turns.{inv-rounds-more}
 use Rattle.inverse.proofs.decrypt.Statement.{statement}
 use Rattle.inverse.proofs.decrypt.Tie as tie
 
 abbrev invariant-loop : tie.invariant-loop
-invariant-loop w table t₀ n₀ t n = (n ≤ 13) × (t ≡ invRounds w t₀ n)
+invariant-loop w table t₀ n₀ t n = (n ≤ 13) × (t ≡ inv_rounds w t₀ n)
 
 abbrev decreases-loop : tie.decreases-loop
 decreases-loop w table t₀ n₀ t n = 13 - n
 
 loop-holds : tie.Need-loop-init invariant-loop decreases-loop
-unfolding invRounds
+unfolding inv_rounds
 loop-holds c = (search rules, refl)
 
 loop-again : tie.Need-loop-preserved invariant-loop decreases-loop
 loop-again c =
     let g = c.before.before.loop.invariant in
-    (search rules, c.inv-round.ensures ∙ ap (invRoundOf _ _) g.1 ∙ inv-rounds-more _ _ _)
+    (search rules, c.inv-round.ensures ∙ ap (inv_round_of _ _) g.1 ∙ inv-rounds-more _ _ _)
 
 returns : tie.Need-returns invariant-loop decreases-loop
 unfolding decrypted

@@ -5,7 +5,7 @@ use Prim.Native.Nat.{ℕ, ◌%◌}
 use borrow.Author.Rules.{rules}
 use lib.ListN.{length, set}
 use Rattle.laws.proofs.Lists.{length-tabulate}
-use Rattle.rijndael.specs.Cipher.{cipher, encrypted, toBlock, toState}
+use Rattle.rijndael.specs.Cipher.{cipher, encrypted, to_block, to_state}
 use Rattle.tea.specs.Keystream.{block_of}
 use Rattle.keystream.proofs.make.Statement.{statement}
 use Rattle.keystream.proofs.make.Tie as tie
@@ -19,7 +19,7 @@ returns c =
     let made = c.before in
     let called = made.before.before.before.before in
     let a = called.args in
-    let block = made.encrypt-block.ensures ∙ (λ i. toBlock (encrypted (called.requires.3.0 i) (toState (made.before.plaintext.ensures i)))) in
+    let block = made.encrypt-block.ensures ∙ (λ i. to_block (encrypted (called.requires.3.0 i) (to_state (made.before.plaintext.ensures i)))) in
     (refl, ap (λ (b : List ℕ). set a.kept.now (a.j % 2) b) block)
 
 pub make_spec : {M : Type 1} → statement M

@@ -7,8 +7,8 @@ use native.Mathlib.Omega.{arith}
 use borrow.Author.Rules.{rules}
 use lib.ListN.{length, get_or}
 use Rattle.laws.specs.Bits.{bit_at}
-use Rattle.span.specs.Span.{streamBit, xored}
-use Rattle.block_counts.specs.Counts.{blockAfter}
+use Rattle.span.specs.Span.{stream_bit, xored}
+use Rattle.block_counts.specs.Counts.{block_after}
 use Rattle.span.proofs.Laws.{xored-none, length-xored}
 use Rattle.span.proofs.Stream.{xored-stretch}
 use Rattle.block_counts.proofs.Blocks.{after_none}
@@ -21,9 +21,9 @@ use Rattle.keystream.proofs.xor_run.Tie as tie
 
 abbrev invariant-loop : tie.invariant-loop
 invariant-loop kept₀ buf₀ mode w table mixes start n skip made₀ done₀ kept buf made done =
-    (done ≤ n) × (length buf ≡ length buf₀) × (buf ≡ xored buf₀ (streamBit (block_of mode)) start skip done)
+    (done ≤ n) × (length buf ≡ length buf₀) × (buf ≡ xored buf₀ (stream_bit (block_of mode)) start skip done)
     × (made.schedules ≡ made₀.schedules)
-    × (made.next ≡ blockAfter made₀.next skip done)
+    × (made.next ≡ block_after made₀.next skip done)
     × (made.blocks ≡ made₀.blocks + (made.next - max made₀.next (skip / 256)))
     × (made.blocks ≤ made.next)
     × Held mode made.next kept

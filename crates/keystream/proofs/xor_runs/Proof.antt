@@ -5,25 +5,25 @@ use Prim.Native.Nat.{ℕ, ◌+◌, ◌-◌, ◌/◌, ◌<◌, ◌≤◌, max}
 use native.Mathlib.Omega.{arith}
 use borrow.Author.Rules.{rules}
 use lib.ListN.{length}
-use Rattle.span.specs.Span.{streamBit}
-use Rattle.block_counts.specs.Counts.{blockAfter}
+use Rattle.span.specs.Span.{stream_bit}
+use Rattle.block_counts.specs.Counts.{block_after}
 use Rattle.span.proofs.Laws.{length-xored}
 use Rattle.tea.specs.declared.mode.Mode.{Mode}
 use Rattle.tea.specs.Keystream.{block_of}
 use Rattle.keystream.specs.declared.Run.{Run}
 use Rattle.keystream.specs.declared.Work.{Work}
-use Rattle.keystream.specs.Work.{Held, Fits, throughRun}
-use Rattle.keystream.proofs.Turns.{run_at, next_at, madeAt, bufAt, run-after, next-after, made_after, buf-after, fits-at, fits-long, early-at, both-made}
+use Rattle.keystream.specs.Work.{Held, Fits, through_run}
+use Rattle.keystream.proofs.Turns.{run_at, next_at, made_at, buf_at, run-after, next-after, made_after, buf-after, fits-at, fits-long, early-at, both-made}
 use Rattle.keystream.proofs.xor_runs.Statement.{statement}
 use Rattle.keystream.proofs.xor_runs.Tie as tie
 
 abbrev invariant-loop : tie.invariant-loop
 invariant-loop buf₀ q a table mode w made₀ mixes kept₀ p turn₀ buf made kept run turn =
     (turn ≤ 2) × (length buf ≡ length buf₀) × (run ≡ run_at p q turn)
-    × (buf ≡ bufAt p q (streamBit (block_of mode)) buf₀ turn)
+    × (buf ≡ buf_at p q (stream_bit (block_of mode)) buf₀ turn)
     × (made.schedules ≡ 1)
     × (made.next ≡ next_at p q turn)
-    × (made.blocks ≡ madeAt p q turn)
+    × (made.blocks ≡ made_at p q turn)
     × (made.blocks ≤ made.next)
     × Held mode made.next kept
 
@@ -76,14 +76,14 @@ loop-again c =
     let e = ran.xor-run.ensures in
     let p = s.args.p in
     let q = s.args.q in
-    let k = streamBit (block_of turn.before.before.before.before.before.before.before.before.Mode-of.result) in
+    let k = stream_bit (block_of turn.before.before.before.before.before.before.before.before.Mode-of.result) in
     let run = inv.2 in
-    let next = e.2 ∙ (λ i. blockAfter (inv.5 i) (run i).skip (run i).n) ∙ sym (next-after p q loop.turn) in (
+    let next = e.2 ∙ (λ i. block_after (inv.5 i) (run i).skip (run i).n) ∙ sym (next-after p q loop.turn) in (
       omega arith,
       ap length e.0 ∙ length-xored _ _ _ _ _ ∙ inv.1,
       sym (run-after p q loop.turn),
       e.0
-          ∙ (λ i. throughRun (inv.3 i) k (run i))
+          ∙ (λ i. through_run (inv.3 i) k (run i))
           ∙ sym (buf-after p q k s.args.buf.now loop.turn),
       e.1 ∙ inv.4,
       next,
@@ -101,10 +101,10 @@ returns c =
     let q = s.args.q in
     let all : loop.turn ≡ 2 = omega arith in (
       loop.invariant.3
-          ∙ ap (bufAt p q (streamBit (block_of mode.Mode-of.result)) s.args.buf.now) all
-          ∙ ap (λ (m : Mode). throughRun (throughRun s.args.buf.now (streamBit (block_of m)) p) (streamBit (block_of m)) q) mode.Mode-of.ensures,
+          ∙ ap (buf_at p q (stream_bit (block_of mode.Mode-of.result)) s.args.buf.now) all
+          ∙ ap (λ (m : Mode). through_run (through_run s.args.buf.now (stream_bit (block_of m)) p) (stream_bit (block_of m)) q) mode.Mode-of.ensures,
       loop.invariant.4,
-      loop.invariant.6 ∙ ap (madeAt p q) all ∙ both-made p q s.requires.3,
+      loop.invariant.6 ∙ ap (made_at p q) all ∙ both-made p q s.requires.3,
     )
 
 pub xor-runs-spec : {M : Type 1} → statement M

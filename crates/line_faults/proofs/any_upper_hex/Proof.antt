@@ -3,13 +3,13 @@ use mathlib.Core.Path.{◌≡◌, refl, sym, ◌∙◌}
 use Prim.Native.Nat.{◌-◌}
 use lib.ListN.{length, drop}
 use borrow.Author.Rules.{rules}
-use Rattle.line_faults.specs.Faults.{anyUpperHex}
+use Rattle.line_faults.specs.Faults.{any_upper_hex}
 use Rattle.line_faults.proofs.Hexes.{upper-end, upper-here, upper-on}
 use Rattle.line_faults.proofs.any_upper_hex.Statement.{statement}
 use Rattle.line_faults.proofs.any_upper_hex.Tie as tie
 
 abbrev invariant-loop : tie.invariant-loop
-invariant-loop s i₀ i = anyUpperHex s ≡ anyUpperHex (drop i s)
+invariant-loop s i₀ i = any_upper_hex s ≡ any_upper_hex (drop i s)
 
 abbrev decreases-loop : tie.decreases-loop
 decreases-loop s i₀ i = length s - i

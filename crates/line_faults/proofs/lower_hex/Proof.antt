@@ -2,7 +2,7 @@
 use mathlib.Core.Path.{sym, ◌∙◌}
 use native.Mathlib.Omega.{arith}
 use borrow.Author.Rules.{rules}
-use Rattle.line_faults.specs.Faults.{lowerHex}
+use Rattle.line_faults.specs.Faults.{lower_hex}
 use Rattle.line_faults.proofs.Hexes.{upper-most}
 use Rattle.line_faults.proofs.lower_hex.Statement.{statement}
 use Rattle.line_faults.proofs.lower_hex.Tie as tie
@@ -11,11 +11,11 @@ add-result : tie.Need-overflow-add-result
 add-result c = record { fits = omega (arith, upper-most _ (sym c.before.is-upper-hex.ensures ∙ c.if1.true)) }
 
 returns : tie.Need-returns
-unfolding lowerHex
+unfolding lower_hex
 returns c = rw (sym c.before.is-upper-hex.ensures ∙ c.if1.true)
 
 returns-2 : tie.Need-returns-2
-unfolding lowerHex
+unfolding lower_hex
 returns-2 c = rw (sym c.before.is-upper-hex.ensures ∙ c.if1.false)
 
 pub lower-hex-spec : {M : Type 1} → statement M

@@ -6,12 +6,12 @@ use native.Mathlib.Omega.{arith}
 use lib.ListN.{length}
 use borrow.Author.Rules.{rules}
 use Rattle.line_parts.specs.Line.{leading}
-use Rattle.line_faults.specs.Faults.{zerosIn}
+use Rattle.line_faults.specs.Faults.{zeros_in}
 use Rattle.line_faults.proofs.zeros_in.Statement.{statement}
 use Rattle.line_faults.proofs.zeros_in.Tie as tie
 
-no-zeros : (value : List ℕ) → length value ≡ 0 → zerosIn value ≡ 0
-unfolding zerosIn leading
+no-zeros : (value : List ℕ) → length value ≡ 0 → zeros_in value ≡ 0
+unfolding zeros_in leading
 no-zeros [] e = refl
 no-zeros (b ∷ s) e = absurd (omega arith)
 
@@ -19,7 +19,7 @@ returns : tie.Need-returns
 returns c = sym (no-zeros c.before.before.args.value.now c.if1.true)
 
 returns-2 : tie.Need-returns-2
-unfolding zerosIn
+unfolding zeros_in
 returns-2 c = c.leading.ensures ∙ ap (leading 48) c.before.front.ensures
 
 pub zeros-in-spec : {M : Type 1} → statement M

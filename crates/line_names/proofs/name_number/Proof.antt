@@ -3,19 +3,19 @@ use mathlib.Core.Path.{◌≡◌, refl, sym, ◌∙◌}
 use Prim.Native.Nat.{◌-◌, ◌≤◌}
 use native.Mathlib.Omega.{arith}
 use borrow.Author.Rules.{rules}
-use Rattle.line_names.specs.Names.{numberFrom, nameNumber, nameCount}
+use Rattle.line_names.specs.Names.{number_from, name_number, name_count}
 use Rattle.line_names.proofs.Same.{number-here, number-on, number-none}
 use Rattle.line_names.proofs.name_number.Statement.{statement}
 use Rattle.line_names.proofs.name_number.Tie as tie
 
 abbrev invariant-loop : tie.invariant-loop
-invariant-loop name k₀ k = nameNumber name ≡ numberFrom k (nameCount - k) name
+invariant-loop name k₀ k = name_number name ≡ number_from k (name_count - k) name
 
 abbrev decreases-loop : tie.decreases-loop
-decreases-loop name k₀ k = nameCount - k
+decreases-loop name k₀ k = name_count - k
 
 loop-holds : tie.Need-loop-init invariant-loop decreases-loop
-unfolding nameNumber
+unfolding name_number
 loop-holds c = refl
 
 returns : tie.Need-returns invariant-loop decreases-loop

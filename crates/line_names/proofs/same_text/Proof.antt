@@ -5,13 +5,13 @@ use Prim.Native.Nat.{◌-◌}
 use native.Mathlib.Omega.{arith}
 use lib.ListN.{length, drop}
 use borrow.Author.Rules.{rules}
-use Rattle.line_names.specs.Names.{sameText}
+use Rattle.line_names.specs.Names.{same_text}
 use Rattle.line_names.proofs.Same.{same-sizes, same_end, same-other, same-on}
 use Rattle.line_names.proofs.same_text.Statement.{statement}
 use Rattle.line_names.proofs.same_text.Tie as tie
 
 abbrev invariant-loop : tie.invariant-loop
-invariant-loop s t i₀ i = (length s ≡ length t) × (sameText s t ≡ sameText (drop i s) (drop i t))
+invariant-loop s t i₀ i = (length s ≡ length t) × (same_text s t ≡ same_text (drop i s) (drop i t))
 
 abbrev decreases-loop : tie.decreases-loop
 decreases-loop s t i₀ i = length s - i

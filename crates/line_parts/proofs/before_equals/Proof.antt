@@ -2,7 +2,7 @@
 use native.Mathlib.Omega.{arith}
 use borrow.Author.Rules.{rules}
 use Rattle.lines.proofs.Pieces.{index-within}
-use Rattle.line_parts.specs.Line.{equals, beforeEquals}
+use Rattle.line_parts.specs.Line.{equals, before_equals}
 use Rattle.line_parts.proofs.before_equals.Statement.{statement}
 use Rattle.line_parts.proofs.before_equals.Tie as tie
 
@@ -10,7 +10,7 @@ front-requires : tie.Need-front-requires
 front-requires c κs = omega (arith, c.index_of.ensures, index-within equals c.before.bare.result.now)
 
 returns : tie.Need-returns
-unfolding beforeEquals
+unfolding before_equals
 returns c = cc
 
 pub before-equals-spec : {M : Type 1} → statement M

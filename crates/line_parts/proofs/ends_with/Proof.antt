@@ -3,16 +3,16 @@ use native.Mathlib.Omega.{arith}
 use lib.ListN.{length}
 use borrow.Author.Rules.{rules}
 use borrow.Author.Tests.{lt-ltb, le-ltb}
-use Rattle.line_parts.specs.Line.{endsWith}
+use Rattle.line_parts.specs.Line.{ends_with}
 use Rattle.line_parts.proofs.ends_with.Statement.{statement}
 use Rattle.line_parts.proofs.ends_with.Tie as tie
 
 returns : tie.Need-returns
-unfolding endsWith
+unfolding ends_with
 returns c = rw (le-ltb 0 (length c.before.args.s.now) (omega arith))
 
 returns-2 : tie.Need-returns-2
-unfolding endsWith
+unfolding ends_with
 returns-2 c = rw (lt-ltb 0 (length c.before.before.args.s.now) (omega arith))
 
 pub ends-with-spec : {M : Type 1} → statement M

@@ -4,13 +4,13 @@ use Prim.Native.Nat.{ℕ, ◌≤◌, ◌-◌}
 use native.Mathlib.Omega.{arith}
 use lib.ListN.{length, drop}
 use borrow.Author.Rules.{rules}
-use Rattle.lines.specs.Line.{space, afterSpaces}
+use Rattle.lines.specs.Line.{space, after_spaces}
 use Rattle.lines.proofs.Pieces.{step-within, step-on, step-all}
 use Rattle.lines.proofs.after_spaces.Statement.{statement}
 use Rattle.lines.proofs.after_spaces.Tie as tie
 
 abbrev invariant-loop : tie.invariant-loop
-invariant-loop line k at₀ i₀ at i = (at ≤ length line) × (afterSpaces k line ≡ afterSpaces (k - i) (drop at line))
+invariant-loop line k at₀ i₀ at i = (at ≤ length line) × (after_spaces k line ≡ after_spaces (k - i) (drop at line))
 
 abbrev decreases-loop : tie.decreases-loop
 decreases-loop line k at₀ i₀ at i = k - i
@@ -19,7 +19,7 @@ loop-holds : tie.Need-loop-init invariant-loop decreases-loop
 loop-holds c =
     let args = c.before.args in
     let z : args.k ≡ args.k - 0 = omega arith in
-    (omega arith, ap (λ (m : ℕ). afterSpaces m args.line.now) z)
+    (omega arith, ap (λ (m : ℕ). after_spaces m args.line.now) z)
 
 add_at : tie.Need-overflow-add-at invariant-loop decreases-loop
 add_at c =

@@ -4,13 +4,13 @@ use mathlib.Core.Logic.{⊎_elim}
 use Prim.Native.Nat.{◌≤◌, ◌+◌, ◌-◌}
 use native.Mathlib.Omega.{arith}
 use borrow.Author.Rules.{rules}
-use Rattle.lines.specs.Line.{columnOf}
+use Rattle.lines.specs.Line.{column_of}
 use Rattle.lines.proofs.Ends.{column-first, column-next, column-same}
 use Rattle.lines.proofs.column_of.Statement.{statement}
 use Rattle.lines.proofs.column_of.Tie as tie
 
 abbrev invariant-loop : tie.invariant-loop
-invariant-loop text place column₀ i₀ column i = (i ≤ place) × (column ≤ i + 1) × (column ≡ columnOf text i)
+invariant-loop text place column₀ i₀ column i = (i ≤ place) × (column ≤ i + 1) × (column ≡ column_of text i)
 
 abbrev decreases-loop : tie.decreases-loop
 decreases-loop text place column₀ i₀ column i = place - i
@@ -32,7 +32,7 @@ loop-again c =
 returns : tie.Need-returns invariant-loop decreases-loop
 returns c =
     let e : c.before.loop.i ≡ c.before.before.args.place = omega arith in
-    c.before.loop.invariant.2 ∙ ap (columnOf _) e
+    c.before.loop.invariant.2 ∙ ap (column_of _) e
 
 pub column-of-spec : {M : Type 1} → statement M
 column-of-spec =

@@ -4,13 +4,13 @@ use Prim.Native.Nat.{◌-◌, ◌+◌}
 use native.Mathlib.Omega.{arith}
 use lib.ListN.{length, drop}
 use borrow.Author.Rules.{rules}
-use Rattle.lines.specs.Line.{indexOf}
+use Rattle.lines.specs.Line.{index_of}
 use Rattle.lines.proofs.Pieces.{index-end, index-here, index_on}
 use Rattle.lines.proofs.index_of.Statement.{statement}
 use Rattle.lines.proofs.index_of.Tie as tie
 
 abbrev invariant-loop : tie.invariant-loop
-invariant-loop s b i₀ i = indexOf b s ≡ i + indexOf b (drop i s)
+invariant-loop s b i₀ i = index_of b s ≡ i + index_of b (drop i s)
 
 abbrev decreases-loop : tie.decreases-loop
 decreases-loop s b i₀ i = length s - i

@@ -4,7 +4,7 @@ use native.Mathlib.Omega.{arith}
 use lib.ListN.{take}
 use lib.Seq.{length-take-le}
 use borrow.Author.Rules.{rules}
-use Rattle.lines.specs.Line.{indexOf, space, part}
+use Rattle.lines.specs.Line.{index_of, space, part}
 use Rattle.lines.proofs.Pieces.{index-within}
 use Rattle.lines.proofs.part.Statement.{statement}
 use Rattle.lines.proofs.part.Tie as tie
@@ -18,7 +18,7 @@ returns : tie.Need-returns
 unfolding part
 returns c =
     let e = c.before.before.after-spaces.ensures in
-    λ i. take ((c.before.index_of.ensures ∙ ap (indexOf space) e) i) (e i)
+    λ i. take ((c.before.index_of.ensures ∙ ap (index_of space) e) i) (e i)
 
 pub part-spec : {M : Type 1} → statement M
 part-spec = tie.close (tie.spec (λ c κs. search rules) (λ c κs. search rules) slice-aggregate-result returns)

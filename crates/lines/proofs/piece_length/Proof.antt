@@ -5,13 +5,13 @@ use native.Mathlib.Numerals.{add-one}
 use native.Mathlib.Omega.{arith}
 use borrow.Author.Rules.{rules}
 use borrow.Author.Tests.{eq-eqb, ne_eqb}
-use Rattle.lines.specs.Line.{pieceLength}
+use Rattle.lines.specs.Line.{piece_length}
 use Rattle.lines.proofs.Pieces.{index-within}
 use Rattle.lines.proofs.piece_length.Statement.{statement}
 use Rattle.lines.proofs.piece_length.Tie as tie
 
 returns : tie.Need-returns
-unfolding pieceLength
+unfolding piece_length
 returns c = rw (eq-eqb _ _ (sym c.before.index_of.ensures ∙ c.if1.true)) c.if1.true
 
 add-result : tie.Need-overflow-add-result
@@ -20,7 +20,7 @@ add-result c =
     record { fits = omega (arith, c.before.index_of.ensures, index-within args.b args.s.now, c.if1.false) }
 
 returns-2 : tie.Need-returns-2
-unfolding pieceLength
+unfolding piece_length
 returns-2 c =
     rw (ne_eqb _ _ (λ e. c.if1.false (c.before.index_of.ensures ∙ e))) (add-one _ ∙ ap suc c.before.index_of.ensures)
 

@@ -7,8 +7,8 @@ use borrow.Author.Rules.{rules}
 use lib.ListN.{length, drop, length-drop}
 use lib.Seq.{take_all, drop-drop}
 use Rattle.record_reader.specs.declared.RecordRead.{RecordRead}
-use Rattle.record_reader.specs.Record.{recordRead}
-use Rattle.loading.specs.Loading.{loadWithin, loadAll}
+use Rattle.record_reader.specs.Record.{record_read}
+use Rattle.loading.specs.Loading.{load_within, load_all}
 use Rattle.loading.proofs.Loads.{Taken, taken, load-end, text-refused, load-refused, load-next}
 use Rattle.loading.proofs.load_all.Statement.{statement}
 use Rattle.loading.proofs.load_all.Tie as tie
@@ -16,17 +16,17 @@ use Rattle.loading.proofs.load_all.Tie as tie
 abbrev invariant-loop : tie.invariant-loop
 invariant-loop sheet table₀ position₀ at₀ table position at =
     (1 ≤ position) × (position ≤ at + 1) × (at ≤ length sheet)
-    × (loadAll sheet ≡ loadWithin (length sheet + 1 - position) table position (drop at sheet))
+    × (load_all sheet ≡ load_within (length sheet + 1 - position) table position (drop at sheet))
 
 abbrev decreases-loop : tie.decreases-loop
 decreases-loop sheet table₀ position₀ at₀ table position at = length sheet - at
 
 loop-holds : tie.Need-loop-init invariant-loop decreases-loop
-unfolding loadAll
+unfolding load_all
 loop-holds c =
     let sheet = c.before.before.args.sheet.now in
     let z : length sheet ≡ length sheet + 1 - 1 = omega arith in
-    (omega arith, omega arith, omega arith, λ i. loadWithin (z i) (sym c.empty-table.ensures i) 1 sheet)
+    (omega arith, omega arith, omega arith, λ i. load_within (z i) (sym c.empty-table.ensures i) 1 sheet)
 
 -- a record is read, and something was there to read
 module _ (c : tie.After-struct-known invariant-loop decreases-loop) where
@@ -42,17 +42,17 @@ module _ (c : tie.After-struct-known invariant-loop decreases-loop) where
   some : 0 < length rest
   some = simp length-drop (omega (arith, c.before.before.before.loop-test.true))
 
-  read_is : c.before.read-record.result ≡ recordRead rest
-  read_is = c.before.read-record.ensures ∙ ap recordRead (take_all (length sheet - here.loop.at) rest (simp length-drop (omega arith)))
+  read_is : c.before.read-record.result ≡ record_read rest
+  read_is = c.before.read-record.ensures ∙ ap record_read (take_all (length sheet - here.loop.at) rest (simp length-drop (omega arith)))
 
   abbrev left : ℕ
   left = length sheet - here.loop.position
 
-  whole : loadAll sheet ≡ loadWithin (suc left) here.loop.table here.loop.position rest
+  whole : load_all sheet ≡ load_within (suc left) here.loop.table here.loop.position rest
   whole =
       let loop = here.loop in
       let z : length sheet + 1 - loop.position ≡ suc left = omega (arith, c.before.before.before.loop-test.true) in
-      loop.inv.3 ∙ ap (λ (n : ℕ). loadWithin n loop.table loop.position rest) z
+      loop.inv.3 ∙ ap (λ (n : ℕ). load_within n loop.table loop.position rest) z
 
 returns : tie.Need-returns invariant-loop decreases-loop
 returns c =
@@ -111,7 +111,7 @@ loop-again c =
       o.1,
       whole read
           ∙ load-next (left read) loop.table _ (rest read) (some read) (read_is read) load.before.before.before.before.if1.false load.before.asked.ensures load.load.ensures c.before.before.if2.false
-          ∙ (λ i. loadWithin (z i) load.load.result.table (loop.position + 1) (drop-drop used loop.at (sheet read) i)),
+          ∙ (λ i. load_within (z i) load.load.result.table (loop.position + 1) (drop-drop used loop.at (sheet read) i)),
     )
 
 returns-3 : tie.Need-returns-3 invariant-loop decreases-loop

@@ -1,6 +1,6 @@
 -- `log_figures::add`: by the test of the code. Assumes nothing.
 use Rattle.std.proofs.Common.{ℕ, ap, ◌∙◌, rules, eq-eqb, ne_eqb}
-use Rattle.logged_calls.specs.Figures.{addedAccepted, added}
+use Rattle.logged_calls.specs.Figures.{added_accepted, added}
 use Rattle.logged_calls.proofs.Sound.{accepted-ranges, refused-code}
 use Rattle.log_figures.proofs.add.Statement.{statement}
 use Rattle.log_figures.proofs.add.Tie as tie
@@ -13,7 +13,7 @@ add-refused-requires c κs = refused-code c.before.before.before.args.c c.before
 
 returns : tie.Need-returns
 unfolding added
-returns c = rw (eq-eqb _ _ c.before.before.before.before.before.if1.true) (c.before.before.add-accepted.ensures ∙ ap (λ (row : ℕ). addedAccepted c.before.before.before.before.before.before.before.args.figures.now row c.before.before.before.before.before.before.before.args.c.bits c.before.before.before.before.before.before.before.args.c.blocks) c.before.before.before.row_of.ensures.0)
+returns c = rw (eq-eqb _ _ c.before.before.before.before.before.if1.true) (c.before.before.add-accepted.ensures ∙ ap (λ (row : ℕ). added_accepted c.before.before.before.before.before.before.before.args.figures.now row c.before.before.before.before.before.before.before.args.c.bits c.before.before.before.before.before.before.before.args.c.blocks) c.before.before.before.row_of.ensures.0)
 
 returns-2 : tie.Need-returns-2
 unfolding added

@@ -1,11 +1,11 @@
 -- `log_figures::into_row`: one figure after the other. Assumes nothing.
-use Rattle.logged_calls.specs.Figures.{intoRow}
+use Rattle.logged_calls.specs.Figures.{into_row}
 use Rattle.std.proofs.Common.{rules}
 use Rattle.log_figures.proofs.into_row.Statement.{statement}
 use Rattle.log_figures.proofs.into_row.Tie as tie
 
 returns : tie.Need-returns
-unfolding intoRow
+unfolding into_row
 returns c = cc
 
 pub into-row-spec : {M : Type 1} → statement M

@@ -5,7 +5,7 @@ use native.Mathlib.Omega.{arith}
 use lib.ListN.{drop}
 use borrow.Author.Rules.{rules}
 use Rattle.writing.proofs.Puts.{put_as, put-length, room_as}
-use Rattle.line_faults.specs.Faults.{zerosDropped}
+use Rattle.line_faults.specs.Faults.{zeros_dropped}
 use Rattle.mended_text.specs.Text.{lowered}
 use Rattle.mended_text.proofs.Laws.{mended-key, mended-other, zeros_within}
 use Rattle.mended_text.proofs.put_mended.Statement.{statement}
@@ -19,7 +19,7 @@ rest-requires c κs =
 -- the value without its zeros
 digits : (c : tie.After-rest)
     → let args = c.before.before.before.before.args in
-    c.rest.result.now ≡ drop (zerosDropped args.k args.value.now) args.value.now
+    c.rest.result.now ≡ drop (zeros_dropped args.k args.value.now) args.value.now
 digits c =
     let args = c.before.before.before.before.args in
     c.rest.ensures ∙ ap (λ (n : ℕ). drop n args.value.now) c.before.zeros-dropped.ensures

@@ -7,7 +7,7 @@ use borrow.Author.Rules.{rules}
 use Rattle.writing.proofs.Puts.{put_as, put_then, put-length, room_as, room-first, room-then}
 use Rattle.lines.proofs.Pieces.{index-within}
 use Rattle.line_parts.specs.Line.{equals}
-use Rattle.line_names.specs.Names.{nameText}
+use Rattle.line_names.specs.Names.{name_text}
 use Rattle.mended_text.proofs.put_name.Statement.{statement}
 use Rattle.mended_text.proofs.put_name.Tie as tie
 
@@ -17,7 +17,7 @@ front-requires c κs =
     omega (arith, index.index_of.ensures, index-within equals index.before.before.name-bytes.result)
 
 -- what is put first is the name
-is_name : (c : tie.After-front) → c.front.result.now ≡ nameText c.before.before.before.before.before.before.before.args.k
+is_name : (c : tie.After-front) → c.front.result.now ≡ name_text c.before.before.before.before.before.before.before.args.k
 is_name c =
     let index = c.before.before.before in
     let name = index.before.before in

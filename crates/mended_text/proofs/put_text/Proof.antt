@@ -5,19 +5,19 @@ use native.Mathlib.Omega.{arith}
 use borrow.Author.Rules.{rules}
 use Rattle.writing.proofs.Puts.{put-length}
 use Rattle.writing.proofs.Left.{Left, left-all, left_as, left-next, left-none, next-room}
-use Rattle.line_names.specs.Names.{nameCount}
+use Rattle.line_names.specs.Names.{name_count}
 use Rattle.sheet_faults.specs.Sheet.{lines_of}
-use Rattle.mended_text.specs.Text.{linesMended, textMended}
+use Rattle.mended_text.specs.Text.{lines_mended, text_mended}
 use Rattle.mended_text.proofs.Laws.{lines_next, lines_none, text-lines}
 use Rattle.mended_text.proofs.put_text.Statement.{statement}
 use Rattle.mended_text.proofs.put_text.Tie as tie
 
 abbrev invariant-loop : tie.invariant-loop
 invariant-loop buffer₀ text two at₀ k₀ buffer at k =
-    (k ≤ nameCount) × Left buffer₀ 0 (textMended (lines_of text)) buffer at (linesMended two (lines_of text) k (nameCount - k))
+    (k ≤ name_count) × Left buffer₀ 0 (text_mended (lines_of text)) buffer at (lines_mended two (lines_of text) k (name_count - k))
 
 abbrev decreases-loop : tie.decreases-loop
-decreases-loop buffer₀ text two at₀ k₀ buffer at k = nameCount - k
+decreases-loop buffer₀ text two at₀ k₀ buffer at k = name_count - k
 
 loop-holds : tie.Need-loop-init invariant-loop decreases-loop
 loop-holds c = (omega arith, left_as (text-lines _ _ c.before.before.requires.0) left-all)

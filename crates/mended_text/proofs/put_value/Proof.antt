@@ -3,7 +3,7 @@ use mathlib.Core.Path.{◌≡◌, sym, ap, ◌∙◌}
 use borrow.Author.Rules.{rules}
 use Rattle.writing.proofs.Puts.{put_as, put-length, room_as}
 use Rattle.sheet_faults.specs.Sheet.{lines_of}
-use Rattle.mended_text.specs.Text.{mendedValue, gained, valueMended}
+use Rattle.mended_text.specs.Text.{mended_value, gained, value_mended}
 use Rattle.mended_text.proofs.Laws.{value-given, value-gained}
 use Rattle.mended_text.proofs.put_value.Statement.{statement}
 use Rattle.mended_text.proofs.put_value.Tie as tie
@@ -11,12 +11,12 @@ use Rattle.mended_text.proofs.put_value.Tie as tie
 -- the value of the line is mended
 is-given : (c : tie.After-value-named)
     → let args = c.before.before.before.before.before.before.args in
-    valueMended args.two (lines_of args.text.now) args.k ≡ mendedValue args.k c.value-named.result.now
+    value_mended args.two (lines_of args.text.now) args.k ≡ mended_value args.k c.value-named.result.now
 is-given c =
     let test = c.before.before in
     let args = test.before.before.before.before.args in
     value-given args.two (lines_of args.text.now) args.k (sym test.before.has-name.ensures ∙ test.if1.true)
-    ∙ ap (mendedValue args.k) (sym c.value-named.ensures)
+    ∙ ap (mended_value args.k) (sym c.value-named.ensures)
 
 put-mended-requires : tie.Need-put-mended-requires
 put-mended-requires c κs = room_as (is-given c) c.before.before.before.before.before.before.requires
@@ -29,7 +29,7 @@ returns c =
 -- there is no such line, and the value is gained
 is-gained : (c : tie.Else1)
     → let args = c.before.before.before.before.args in
-    valueMended args.two (lines_of args.text.now) args.k ≡ gained args.k
+    value_mended args.two (lines_of args.text.now) args.k ≡ gained args.k
 is-gained c =
     let args = c.before.before.before.before.args in
     value-gained args.two (lines_of args.text.now) args.k (sym c.before.has-name.ensures ∙ c.if1.false)

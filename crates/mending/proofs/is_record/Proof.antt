@@ -6,18 +6,18 @@ use borrow.Author.Rules.{rules}
 use borrow.Author.Tests.{eq-eqb, ne_eqb}
 use Rattle.refusals.specs.Numbers.{done}
 use Rattle.record_reader.specs.declared.RecordRead.{RecordRead}
-use Rattle.mending.specs.Changes.{isRecord}
+use Rattle.mending.specs.Changes.{is_record}
 use Rattle.mending.proofs.is_record.Statement.{statement}
 use Rattle.mending.proofs.is_record.Tie as tie
 
 returns : tie.Need-returns
-unfolding isRecord
+unfolding is_record
 returns c =
     let e = c.before.before.read-record.ensures in
     rw (ne_eqb _ done (λ z. c.if1.true (ap (λ (r : RecordRead). r.refusal) e ∙ z)))
 
 returns-2 : tie.Need-returns-2
-unfolding isRecord
+unfolding is_record
 returns-2 c =
     let e = c.before.before.before.read-record.ensures in
     rw (eq-eqb _ done (sym (ap (λ (r : RecordRead). r.refusal) e) ∙ c.before.if1.false))

@@ -9,10 +9,10 @@ use borrow.Author.Tests.{not-true, not-false}
 use Rattle.refusals.specs.Numbers.{done}
 use Rattle.writing.specs.Writing.{Room}
 use Rattle.writing.proofs.Puts.{put_as, put-length, room_as}
-use Rattle.sheet_faults.specs.Sheet.{lines_of, sheetBad}
-use Rattle.mended_text.specs.Text.{textMended}
-use Rattle.mending.specs.Changes.{isRecord, sheetMended}
-use Rattle.mending.specs.Answer.{mendAs}
+use Rattle.sheet_faults.specs.Sheet.{lines_of, sheet_bad}
+use Rattle.mended_text.specs.Text.{text_mended}
+use Rattle.mending.specs.Changes.{is_record, sheet_mended}
+use Rattle.mending.specs.Answer.{mend_as}
 use Rattle.mending.proofs.Answers.{put_front, put-taken, text-room, end-within, changes-room, last_within, last-is, sheet-taken, out-names, out-value, out-room, out-done}
 use Rattle.mending.proofs.mend.Statement.{statement}
 use Rattle.mending.proofs.mend.Tie as tie
@@ -22,7 +22,7 @@ size : length (replicate {A = ℕ} 4277 0) ≡ 4277
 size = length-replicate {A = ℕ} 4277 0
 
 -- a sheet that is not refused with 25
-good : (c : tie.Else1) → sheetBad c.before.before.before.before.args.text.now ≡ false
+good : (c : tie.Else1) → sheet_bad c.before.before.before.before.args.text.now ≡ false
 good c = sym c.before.sheet-bad.ensures ∙ c.if1.false
 
 returns : tie.Need-returns
@@ -37,11 +37,11 @@ front-requires c κs =
     end-within _ (good text.before.before.before) size text.put-text.ensures
 
 -- what is read is the mended text
-is_read : (c : tie.After-is-record) → c.is-record.result ≡ isRecord (textMended (lines_of c.before.before.before.before.before.before.before.before.before.before.before.args.text.now))
+is_read : (c : tie.After-is-record) → c.is-record.result ≡ is_record (text_mended (lines_of c.before.before.before.before.before.before.before.before.before.before.before.args.text.now))
 is_read c =
     let text = c.before.before.before.before in
     c.is-record.ensures
-    ∙ ap isRecord (c.before.front.ensures ∙ put-taken text.put-text.ensures (text-room _ (good text.before.before.before) size))
+    ∙ ap is_record (c.before.front.ensures ∙ put-taken text.put-text.ensures (text-room _ (good text.before.before.before) size))
 
 returns-2 : tie.Need-returns-2
 returns-2 c =
@@ -70,7 +70,7 @@ front-requires-2 c κs =
 -- what is copied is the mended sheet
 is-sheet : (c : tie.After-front2)
     → c.front2.result.now
-    ≡ sheetMended (lines_of c.before.before.before.before.before.before.before.before.before.before.before.before.before.before.before.before.before.before.before.args.text.now)
+    ≡ sheet_mended (lines_of c.before.before.before.before.before.before.before.before.before.before.before.before.before.before.before.before.before.before.before.args.text.now)
 is-sheet c =
     let changes = c.before.before.before.before.before in
     let text = changes.before.before.before.before.before.before.before in
@@ -79,7 +79,7 @@ is-sheet c =
 -- and the buffer has room for it
 sheet-fits : (c : tie.After-front2)
     → let start = c.before.before.before.before.before.before.before.before.before.before.before.before.before.before.before.before.before.before.before in
-    length (sheetMended (lines_of start.args.text.now)) ≤ length start.args.buffer.now
+    length (sheet_mended (lines_of start.args.text.now)) ≤ length start.args.buffer.now
 sheet-fits c =
     let changes = c.before.before.before.before.before in
     let text = changes.before.before.before.before.before.before.before in
@@ -91,7 +91,7 @@ sheet-fits c =
 
 sheet-room : (c : tie.After-front2)
     → let start = c.before.before.before.before.before.before.before.before.before.before.before.before.before.before.before.before.before.before.before in
-    Room start.args.buffer.now 0 (sheetMended (lines_of start.args.text.now))
+    Room start.args.buffer.now 0 (sheet_mended (lines_of start.args.text.now))
 sheet-room c = let h = sheet-fits c in record { fits = omega arith }
 
 put-bytes-requires : tie.Need-put-bytes-requires
@@ -106,7 +106,7 @@ returns-4 c =
     let text = test.before.before.before.before.before in
     let ends = last-is _ (good text.before.before.before) size text.put-text.ensures changes.put-changes.ensures in
     let holds = put_front (put_as (is-sheet sheet) call.put-bytes.ensures) (sheet-room sheet) in
-    (λ i. mendAs done (ends i) (holds i))
+    (λ i. mend_as done (ends i) (holds i))
     ∙ out-done _ _ (good text.before.before.before) (sym (is_read test.before) ∙ not-false _ test.if2.false) (sheet-fits sheet)
 
 pub mend-spec : {M : Type 1} → statement M

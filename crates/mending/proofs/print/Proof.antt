@@ -1,14 +1,14 @@
 -- `mending::print`: the mended sheet, or the refusal. Assumes nothing.
 use borrow.Author.Rules.{rules}
 use borrow.Author.Tests.{lt-ltb}
-use Rattle.mending.specs.Answer.{printRoom, printOut}
+use Rattle.mending.specs.Answer.{print_room, print_out}
 use Rattle.mending.proofs.Answers.{print-done, refused-room, refused-printed}
 use Rattle.mending.proofs.print.Statement.{statement}
 use Rattle.mending.proofs.print.Tie as tie
 
 returns : tie.Need-returns
-unfolding printOut
-returns c = rw (lt-ltb _ printRoom c.if1.true)
+unfolding print_out
+returns c = rw (lt-ltb _ print_room c.if1.true)
 
 returns-2 : tie.Need-returns-2
 returns-2 c =

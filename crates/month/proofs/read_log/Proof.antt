@@ -3,7 +3,7 @@ use mathlib.Core.Path.{◌≡◌, refl, ap, ◌∙◌}
 use native.Mathlib.Omega.{arith}
 use borrow.Author.Rules.{rules}
 use lib.ListN.{length}
-use Rattle.call_log.specs.Fed.{Fed, fedTo}
+use Rattle.call_log.specs.Fed.{Fed, fed_to}
 use Rattle.call_log.proofs.Sizes.{fed-size}
 use Rattle.month.proofs.read_log.Statement.{statement}
 use Rattle.month.proofs.read_log.Tie as tie
@@ -18,7 +18,7 @@ grown : (c : tie.After-feed invariant-loop decreases-loop)
     → length c.feed.new.1.0 ≡ length c.before.before.before.before.before.before.before.before.before.before.args.figures.now
 grown c =
     let loop = c.before.before.before.before.before.before.before in
-    ap (λ (f : Fed). length f.figures) c.feed.ensures ∙ (fed-size (fedTo loop.loop.m loop.loop.figures) _ ∙ loop.loop.invariant)
+    ap (λ (f : Fed). length f.figures) c.feed.ensures ∙ (fed-size (fed_to loop.loop.m loop.loop.figures) _ ∙ loop.loop.invariant)
 
 loop-again : tie.Need-loop-preserved invariant-loop decreases-loop
 loop-again c = grown c.before.before.before

@@ -6,7 +6,7 @@ use borrow.Author.Rules.{rules}
 use lib.ListN.{get_or}
 use Rattle.writing.proofs.Puts.{put_as, put-length}
 use Rattle.writing.proofs.Left.{Left, left-all, left_as, left-next, left-none}
-use Rattle.month_sheet.specs.Sheet.{countText, texts, longestCount}
+use Rattle.month_sheet.specs.Sheet.{count_text, texts, longest_count}
 use Rattle.month_sheet.proofs.Lengths.{count-short}
 use Rattle.month_sheet.proofs.Texts.{texts-next, texts-none}
 use Rattle.month_sheet.proofs.put_counts.Statement.{statement}
@@ -14,8 +14,8 @@ use Rattle.month_sheet.proofs.put_counts.Tie as tie
 
 abbrev invariant-loop : tie.invariant-loop
 invariant-loop buffer₀ at figures end₀ code₀ name last buffer end code =
-    (1 ≤ code) × (code ≤ 28) × (end + longestCount ≤ at + code * longestCount)
-    × Left buffer₀ at (texts (λ code. countText code (get_or figures (195 + code) 0)) 1 27) buffer end (texts (λ code. countText code (get_or figures (195 + code) 0)) code (28 - code))
+    (1 ≤ code) × (code ≤ 28) × (end + longest_count ≤ at + code * longest_count)
+    × Left buffer₀ at (texts (λ code. count_text code (get_or figures (195 + code) 0)) 1 27) buffer end (texts (λ code. count_text code (get_or figures (195 + code) 0)) code (28 - code))
 
 abbrev decreases-loop : tie.decreases-loop
 decreases-loop buffer₀ at figures end₀ code₀ name last buffer end code = 28 - code
@@ -24,14 +24,14 @@ loop-holds : tie.Need-loop-init invariant-loop decreases-loop
 loop-holds c = (omega arith, omega arith, omega arith, left-all)
 
 put-pair-requires : tie.Need-put-pair-requires invariant-loop decreases-loop
-unfolding countText
+unfolding count_text
 put-pair-requires c κs =
     let loop = c.before.before.before.before.before in
     let size = loop.loop.invariant.3.size in
     record { fits = omega (arith, count-short loop.loop.code c.before.before.before.figure.result (search rules) (search rules)) }
 
 loop-again : tie.Need-loop-preserved invariant-loop decreases-loop
-unfolding countText
+unfolding count_text
 loop-again c =
     let call = c.before.before in
     let loop = c.before.before.before.before.before.before.before.before in
@@ -40,15 +40,15 @@ loop-again c =
       omega arith,
       omega arith,
       omega (arith, put.ends, count-short loop.loop.code c.before.before.before.before.before.before.figure.result (search rules) (search rules)),
-      left-next (left_as (texts-next (λ code. countText code (get_or figures (195 + code) 0)) loop.loop.code 28 (search rules)) loop.loop.invariant.3)
-          (put_as (λ k. countText loop.loop.code (c.before.before.before.before.before.before.figure.ensures k)) put),
+      left-next (left_as (texts-next (λ code. count_text code (get_or figures (195 + code) 0)) loop.loop.code 28 (search rules)) loop.loop.invariant.3)
+          (put_as (λ k. count_text loop.loop.code (c.before.before.before.before.before.before.figure.ensures k)) put),
     )
 
 returns : tie.Need-returns invariant-loop decreases-loop
 returns c =
     let loop = c.before in
     let figures = c.before.before.before.before.args.figures.now in
-    (omega arith, left-none (left_as (texts-none (λ code. countText code (get_or figures (195 + code) 0)) loop.loop.code 28 (search rules)) loop.loop.invariant.3))
+    (omega arith, left-none (left_as (texts-none (λ code. count_text code (get_or figures (195 + code) 0)) loop.loop.code 28 (search rules)) loop.loop.invariant.3))
 
 pub put-counts-spec : {M : Type 1} → statement M
 put-counts-spec =

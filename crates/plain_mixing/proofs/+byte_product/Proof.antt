@@ -8,7 +8,7 @@ use borrow.Author.Rules.{rules}
 use borrow.Fn.Kinds.{In}
 use borrow.Fn.PlainCycle.{Measures, is, falls, and}
 use Rattle.gf256.specs.Field.{times}
-use Rattle.tea.specs.Mixing.{mixed, expandedByte}
+use Rattle.tea.specs.Mixing.{mixed, expanded_byte}
 use Rattle.tea.proofs.MixingRule.{byte-first, byte-later}
 use Rattle.plain_mixing.proofs.byte.Reads as byte
 use Rattle.plain_mixing.proofs.byte.Kinds as byte-kinds
@@ -76,7 +76,7 @@ byte-returns-2 t c =
     let q : a.i - 10 + 1 ≡ a.i - 9 = omega (arith, g) in
     let r : a.i - 10 + 9 ≡ a.i - 1 = omega (arith, g) in
     (λ i. bit_xor (bit_xor (c.before.before.byte.ensures i) (c.before.byte2.ensures i)) (c.product.ensures i))
-    ∙ sym (ap (expandedByte a.t1) (sym p) ∙ byte-later a.t1 (search rules) (a.i - 10) ∙ (λ i. mixed (expandedByte a.t1 (a.i - 10)) (expandedByte a.t1 (q i)) (expandedByte a.t1 (r i))))
+    ∙ sym (ap (expanded_byte a.t1) (sym p) ∙ byte-later a.t1 (search rules) (a.i - 10) ∙ (λ i. mixed (expanded_byte a.t1 (a.i - 10)) (expanded_byte a.t1 (q i)) (expanded_byte a.t1 (r i))))
 
 product-sub-byte : (t : ℕ) → product-lts.Need-overflow-sub-byte (byte-below t, byte.Post, times-reads.Asked, times-reads.Learnt) (product_at t) product.Post
 product-sub-byte t c = search rules

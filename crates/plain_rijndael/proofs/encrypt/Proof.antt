@@ -4,7 +4,7 @@ use Prim.Native.Nat.{◌-◌, ◌≤◌}
 use native.Mathlib.Omega.{arith}
 use borrow.Author.Rules.{rules}
 use Rattle.rijndael.specs.Cipher.{rounds, encrypted}
-use Rattle.round_steps.specs.Steps.{roundOf}
+use Rattle.round_steps.specs.Steps.{round_of}
 use Rattle.rijndael.proofs.Rounds.{rounds-more}
 use Rattle.plain_schedule.specs.Bytes.{words_of}
 use Rattle.plain_rijndael.proofs.encrypt.Statement.{statement}
@@ -23,7 +23,7 @@ loop-holds c = (search rules, refl)
 loop-again : tie.Need-loop-preserved invariant-loop decreases-loop
 loop-again c =
     let g = c.before.before.loop.invariant in
-    (search rules, c.round.ensures ∙ ap (roundOf _ _) g.1 ∙ rounds-more _ _ _ g.0.0)
+    (search rules, c.round.ensures ∙ ap (round_of _ _) g.1 ∙ rounds-more _ _ _ g.0.0)
 
 returns : tie.Need-returns invariant-loop decreases-loop
 unfolding encrypted

@@ -4,7 +4,7 @@ use Prim.Native.Nat.{◌-◌, ◌/◌, ◌%◌}
 use borrow.Author.Rules.{rules}
 use Rattle.laws.specs.Lists.{cell, Filled}
 use Rattle.laws.proofs.Lists.{fill_none, fill_more, fill-all}
-use Rattle.rijndael.specs.Cipher.{toBlock}
+use Rattle.rijndael.specs.Cipher.{to_block}
 use Rattle.plain_rijndael.proofs.to_block.Statement.{statement}
 use Rattle.plain_rijndael.proofs.to_block.Tie as tie
 
@@ -21,7 +21,7 @@ loop-again : tie.Need-loop-preserved invariant-loop decreases-loop
 loop-again c = fill_more c.before.before.loop.invariant c.before.loop-test.true _ refl
 
 returns : tie.Need-returns invariant-loop decreases-loop
-unfolding toBlock
+unfolding to_block
 returns c = fill-all c.before.loop.invariant c.loop-test.false
 
 pub to-block-spec : {M : Type 1} → statement M

@@ -4,7 +4,7 @@ use mathlib.Core.Path.{refl}
 use Prim.Native.Nat.{ℕ, ◌+◌, ◌-◌, ◌*◌}
 use borrow.Author.Rules.{rules}
 use lib.ListN.{get_or}
-use Rattle.rijndael.specs.Cipher.{toState}
+use Rattle.rijndael.specs.Cipher.{to_state}
 use Rattle.laws.proofs.States.{zero-shape}
 use Rattle.laws.proofs.InRows.{InRow, InRows, in-rows-none, in-row-none, in-row-more, in-rows-more, in-rows-all}
 use Rattle.plain_rijndael.proofs.to_state.Statement.{statement}
@@ -14,7 +14,7 @@ abbrev taken : List ℕ → ℕ → ℕ → ℕ
 taken b r c = get_or b (4 * c + r) 0
 
 pub to-state-spec : {M : Type 1} → statement M
-unfolding toState
+unfolding to_state
 to-state-spec =
     tie.close
     (tie.spec

@@ -4,7 +4,7 @@ use Prim.Native.Nat.{ℕ, ◌*◌}
 use borrow.Author.Rules.{rules}
 use borrow.Author.Tests.{eq-eqb, ne_eqb}
 use lib.Bits.{bit_xor}
-use Rattle.schedule.specs.Schedule.{subByte, carried}
+use Rattle.schedule.specs.Schedule.{sub_byte, carried}
 use Rattle.plain_schedule.proofs.Words.{first_alone}
 use Rattle.plain_schedule.proofs.carried.Statement.{statement}
 use Rattle.plain_schedule.proofs.carried.Tie as tie
@@ -16,7 +16,7 @@ returns c =
     rw (eq-eqb _ 0 made.before.before.if1.true)
     (c.sum.ensures
     ∙ (λ i. bit_xor
-    ((made.sub-byte.ensures ∙ ap subByte made.before.rot-byte.ensures) i)
+    ((made.sub-byte.ensures ∙ ap sub_byte made.before.rot-byte.ensures) i)
     ((first_alone _ ∙ ap (λ (n : ℕ). n * 16777216) c.before.round-constant.ensures) i)))
 
 returns-2 : tie.Need-returns-2

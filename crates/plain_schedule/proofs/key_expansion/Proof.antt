@@ -6,7 +6,7 @@ use Prim.Native.Nat.{ℕ, ◌+◌, ◌-◌, ◌<◌, ◌≤◌}
 use native.Mathlib.Omega.{arith}
 use borrow.Author.Rules.{rules}
 use lib.ListN.{length, set, length-set}
-use Rattle.schedule.specs.Schedule.{keyWord}
+use Rattle.schedule.specs.Schedule.{key_word}
 use Rattle.schedule.proofs.KeyWords.{word_first}
 use Rattle.plain_schedule.specs.Bytes.{word_of}
 use Rattle.plain_schedule.proofs.Words.{Expanded, expanded-more, expanded-next, expanded-all}
@@ -31,7 +31,7 @@ loop-again c =
     let long : length w ≡ 120 = at.loop.invariant.1.0 in
     let g = at.loop.invariant.1.1 in
     let l : i < length w = omega (arith, c.before.loop-test.true) in
-    let more : (v : List ℕ) → c.if1.w ≡ set w i v → word_of v ≡ keyWord key i → (length c.if1.w ≡ 120) × Expanded key c.if1.w (i + 1) =
+    let more : (v : List ℕ) → c.if1.w ≡ set w i v → word_of v ≡ key_word key i → (length c.if1.w ≡ 120) × Expanded key c.if1.w (i + 1) =
     λ v e h. rw e (length-set w i v ∙ long, expanded-more key w i v l g h) in (
       search rules,
       ⊎_elim

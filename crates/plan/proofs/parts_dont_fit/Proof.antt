@@ -4,7 +4,7 @@ use Prim.Native.Nat.{◌+◌}
 use lib.Dec.{ltb}
 use borrow.Author.Tests.{eq-eqb, ne_eqb, ltb-false}
 use Rattle.laws.proofs.Cases.{neither}
-use Rattle.plan.specs.Plan.{addressBits}
+use Rattle.plan.specs.Plan.{address_bits}
 use Rattle.plan.proofs.parts_dont_fit.Statement.{statement}
 use Rattle.plan.proofs.parts_dont_fit.Tie as tie
 
@@ -20,7 +20,7 @@ returns-3 c = simp (c.before.before.if1.false, ne_eqb _ _ c.before.if2.false, eq
 past-keystream-requires : tie.Need-past-keystream-requires
 past-keystream-requires c κs =
     let g = c.before.before.before.before.before.args in
-    let n = neither (ltb g.sdu (g.address + addressBits)) (ltb g.length g.sdu) (rw (← c.before.starts-early.ensures) c.if4.false) in
+    let n = neither (ltb g.sdu (g.address + address_bits)) (ltb g.length g.sdu) (rw (← c.before.starts-early.ensures) c.if4.false) in
     (ltb-false _ _ n.0, ltb-false _ _ n.1)
 
 returns-4 : tie.Need-returns-4

@@ -1,16 +1,16 @@
 -- `plan::plan_refusal` meets its contract. Assumes nothing.
 use mathlib.Core.Path.{sym, ◌∙◌}
 use borrow.Author.Rules.{rules}
-use Rattle.plan.specs.Plan.{planRefusal}
+use Rattle.plan.specs.Plan.{plan_refusal}
 use Rattle.plan.proofs.plan_refusal.Statement.{statement}
 use Rattle.plan.proofs.plan_refusal.Tie as tie
 
 returns : tie.Need-returns
-unfolding planRefusal
+unfolding plan_refusal
 returns c = simp (sym c.before.codes-unknown.ensures ∙ c.if1.true)
 
 returns-2 : tie.Need-returns-2
-unfolding planRefusal
+unfolding plan_refusal
 returns-2 c =
     simp (
       sym c.before.before.before.codes-unknown.ensures ∙ c.before.before.if1.false,
@@ -18,7 +18,7 @@ returns-2 c =
     )
 
 returns-3 : tie.Need-returns-3
-unfolding planRefusal
+unfolding plan_refusal
 returns-3 c =
     simp (
       sym c.before.before.before.codes-unknown.ensures ∙ c.before.before.if1.false,

@@ -2,7 +2,7 @@
 use Prim.Native.Nat.{◌+◌, ◌-◌}
 use native.Mathlib.Omega.{arith}
 use Rattle.laws.proofs.Cases.{ltb-same}
-use Rattle.plan.specs.Plan.{addressBits}
+use Rattle.plan.specs.Plan.{address_bits}
 use Rattle.plan.proofs.starts_early.Statement.{statement}
 use Rattle.plan.proofs.starts_early.Tie as tie
 
@@ -10,13 +10,13 @@ returns : tie.Need-returns
 returns c =
     let a = c.before.args.address in
     let s = c.before.args.sdu in
-    ltb-same s addressBits s (a + addressBits) (λ h. omega arith) (λ h. omega arith)
+    ltb-same s address_bits s (a + address_bits) (λ h. omega arith) (λ h. omega arith)
 
 returns-2 : tie.Need-returns-2
 returns-2 c =
     let a = c.before.args.address in
     let s = c.before.args.sdu in
-    ltb-same (s - addressBits) a s (a + addressBits) (λ h. omega arith) (λ h. omega arith)
+    ltb-same (s - address_bits) a s (a + address_bits) (λ h. omega arith) (λ h. omega arith)
 
 pub starts-early-spec : {M : Type 1} → statement M
 starts-early-spec = tie.close (tie.spec returns returns-2)

@@ -6,27 +6,27 @@ use native.Mathlib.Omega.{arith}
 use borrow.Author.Rules.{rules}
 use borrow.Author.Tests.{not-true, not-false, lt-ltb, le-ltb, lt-leb}
 use Rattle.fields.proofs.Ranges.{between-low}
-use Rattle.forms.specs.Decimals.{isDigit, mayFollow}
+use Rattle.forms.specs.Decimals.{is_digit, may_follow}
 use Rattle.reading.proofs.Steps.{leb-same}
 use Rattle.reading.proofs.may_follow.Statement.{statement}
 use Rattle.reading.proofs.may_follow.Tie as tie
 
 returns : tie.Need-returns
-unfolding mayFollow
+unfolding may_follow
 returns c = rw (sym c.before.is_digit.ensures ∙ not-true _ c.if1.true)
 
-digit : (c : tie.Else1) → isDigit c.before.before.args.b ≡ true
+digit : (c : tie.Else1) → is_digit c.before.before.args.b ≡ true
 digit c = sym c.before.is_digit.ensures ∙ not-false _ c.if1.false
 
 returns-2 : tie.Need-returns-2
-unfolding mayFollow
+unfolding may_follow
 returns-2 c = rw (digit c.before, le-ltb 0 c.before.before.before.args.n (omega arith))
 
 sub-digit : tie.Need-overflow-sub-digit
 sub-digit c = omega (arith, between-low 48 c.before.before.before.args.b 57 (digit c.before))
 
 returns-3 : tie.Need-returns-3
-unfolding mayFollow
+unfolding may_follow
 returns-3 c =
     let args = c.before.before.before.before.args in
     rw (
@@ -36,7 +36,7 @@ returns-3 c =
     )
 
 returns-4 : tie.Need-returns-4
-unfolding mayFollow
+unfolding may_follow
 returns-4 c =
     let args = c.before.before.before.before.args in
     let d = args.b - 48 in

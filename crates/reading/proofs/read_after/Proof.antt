@@ -6,8 +6,8 @@ use native.Mathlib.Omega.{arith}
 use lib.ListN.{length, get_or}
 use borrow.Author.Rules.{rules}
 use borrow.Author.Tests.{not-true, not-false}
-use Rattle.forms.specs.Form.{readAt}
-use Rattle.forms.specs.Decimals.{mayFollow, after}
+use Rattle.forms.specs.Form.{read_at}
+use Rattle.forms.specs.Decimals.{may_follow, after}
 use Rattle.reading.specs.Reading.{answer}
 use Rattle.forms.proofs.Decimals.{follow-is}
 use Rattle.reading.proofs.Steps.{after-end, after-lf, after-no, after-digit}
@@ -15,7 +15,7 @@ use Rattle.reading.proofs.read_after.Statement.{statement}
 use Rattle.reading.proofs.read_after.Tie as tie
 
 abbrev invariant-loop : tie.invariant-loop
-invariant-loop s at high n value₀ i₀ value i = readAt (after high n) s at ≡ readAt (after high value) s i
+invariant-loop s at high n value₀ i₀ value i = read_at (after high n) s at ≡ read_at (after high value) s i
 
 abbrev decreases-loop : tie.decreases-loop
 decreases-loop s at high n value₀ i₀ value i = length s - i
@@ -38,7 +38,7 @@ returns-2 c =
 
 -- the byte may follow
 follows : (c : tie.Else2 invariant-loop decreases-loop) → let here = c.before.before.before.before.before in let args = here.before.before.args in
-    mayFollow args.high here.loop.value (get_or args.s.now here.loop.i 0) ≡ true
+    may_follow args.high here.loop.value (get_or args.s.now here.loop.i 0) ≡ true
 follows c = sym c.before.may-follow.ensures ∙ not-false _ c.if2.false
 
 mul-value : tie.Need-overflow-mul-value invariant-loop decreases-loop

@@ -4,14 +4,14 @@ use Prim.Native.Nat.{◌≤◌, ◌-◌}
 use native.Mathlib.Omega.{arith}
 use lib.ListN.{length, drop}
 use borrow.Author.Rules.{rules}
-use Rattle.forms.specs.Form.{readAt, literal}
+use Rattle.forms.specs.Form.{read_at, literal}
 use Rattle.reading.specs.Reading.{answer}
 use Rattle.reading.proofs.Steps.{on-wrong, on-good, literal-all, literal-end, literal-no, literal-yes}
 use Rattle.reading.proofs.read_literal.Statement.{statement}
 use Rattle.reading.proofs.read_literal.Tie as tie
 
 abbrev invariant-loop : tie.invariant-loop
-invariant-loop s bytes at₀ i₀ at i = (i ≤ length bytes) × (readAt (literal bytes) s at₀ ≡ readAt (literal (drop i bytes)) s at)
+invariant-loop s bytes at₀ i₀ at i = (i ≤ length bytes) × (read_at (literal bytes) s at₀ ≡ read_at (literal (drop i bytes)) s at)
 
 abbrev decreases-loop : tie.decreases-loop
 decreases-loop s bytes at₀ i₀ at i = length bytes - i

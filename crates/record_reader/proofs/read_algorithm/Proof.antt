@@ -1,11 +1,11 @@
 -- `record_reader::read_algorithm`: the names of the algorithms. Assumes nothing.
 use borrow.Author.Rules.{rules}
-use Rattle.record_reader.specs.Lines.{algorithmForm}
+use Rattle.record_reader.specs.Lines.{algorithm_form}
 use Rattle.record_reader.proofs.read_algorithm.Statement.{statement}
 use Rattle.record_reader.proofs.read_algorithm.Tie as tie
 
 returns : tie.Need-returns
-unfolding algorithmForm
+unfolding algorithm_form
 returns c = cc
 
 pub read-algorithm-spec : {M : Type 1} → statement M

@@ -5,23 +5,23 @@ use native.Mathlib.Omega.{arith}
 use lib.ListN.{length, take, length-set}
 use borrow.Author.Rules.{rules}
 use Rattle.forms.specs.Hexes.{byte}
-use Rattle.record_reader.specs.Lines.{keyForm, keyAnswer}
+use Rattle.record_reader.specs.Lines.{key_form, key_answer}
 use Rattle.reading.specs.Reading.{onward}
 use Rattle.forms.proofs.Hexes.{byte-means}
-use Rattle.record_reader.proofs.Keys.{keyRest, key_more, key-all}
+use Rattle.record_reader.proofs.Keys.{key_rest, key_more, key-all}
 use Rattle.reading.proofs.Steps.{on-wrong, on-good, on_then, on_value, step-done}
 use Rattle.record_reader.proofs.read_key.Statement.{statement}
 use Rattle.record_reader.proofs.read_key.Tie as tie
 
 abbrev invariant-loop : tie.invariant-loop
 invariant-loop s key₀ last₀ i₀ b₀ key last i =
-    (i ≤ 24) × (length key ≡ 24) × (onward last₀ keyForm s ≡ onward last (keyRest (take i key) (24 - i)) s)
+    (i ≤ 24) × (length key ≡ 24) × (onward last₀ key_form s ≡ onward last (key_rest (take i key) (24 - i)) s)
 
 abbrev decreases-loop : tie.decreases-loop
 decreases-loop s key₀ last₀ i₀ b₀ key last i = 24 - i
 
 loop-holds : tie.Need-loop-init invariant-loop decreases-loop
-unfolding keyForm
+unfolding key_form
 loop-holds c = (omega arith, refl, refl)
 
 cast-key : tie.Need-overflow-cast-key invariant-loop decreases-loop
@@ -41,14 +41,14 @@ returns c =
     let end = c.before.before.before in
     let test = end.before.before in
     c.no-key-at.ensures
-    ∙ sym (ap keyAnswer (test.before.loop.invariant.2 ∙ key-all _ _ _ _ test.before.loop.invariant.1 test.loop-test.false
+    ∙ sym (ap key_answer (test.before.loop.invariant.2 ∙ key-all _ _ _ _ test.before.loop.invariant.1 test.loop-test.false
     ∙ on_then _ _ _ _ end.read-literal.ensures ∙ on-wrong _ _ _ c.before.if1.true))
 
 returns-2 : tie.Need-returns-2 invariant-loop decreases-loop
 returns-2 c =
     let end = c.before.before in
     let test = end.before.before in
-    sym (ap keyAnswer (test.before.loop.invariant.2 ∙ key-all _ _ _ _ test.before.loop.invariant.1 test.loop-test.false
+    sym (ap key_answer (test.before.loop.invariant.2 ∙ key-all _ _ _ _ test.before.loop.invariant.1 test.loop-test.false
     ∙ on_then _ _ _ _ end.read-literal.ensures ∙ on-good _ _ _ c.if1.false ∙ step-done _ _ _))
 
 pub read-key-spec : {M : Type 1} → statement M

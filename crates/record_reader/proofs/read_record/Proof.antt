@@ -7,10 +7,10 @@ use native.Mathlib.Omega.{arith}
 use borrow.Author.Rules.{rules}
 use Rattle.laws.proofs.Cases.{pick-taken, pick-left}
 use Rattle.laws.specs.Choice.{pick}
-use Rattle.forms.specs.Form.{found, wrong, readAt, line}
+use Rattle.forms.specs.Form.{found, wrong, read_at, line}
 use Rattle.forms.specs.Decimals.{decimal}
 use Rattle.reading.specs.Reading.{onward, answer}
-use Rattle.record_reader.specs.Record.{Entry, recordForm, startsForm, readAnswer, recordRead}
+use Rattle.record_reader.specs.Record.{Entry, record_form, starts_form, read_answer, record_read}
 use Rattle.forms.proofs.Forms.{spelt, stops, stop-within}
 use Rattle.record_reader.proofs.Records.{Small, small, record-means, lines-read}
 use Rattle.record_reader.proofs.read_record.Statement.{statement}
@@ -71,10 +71,10 @@ given c =
       key = c.read-key.result.key;
     }
 
-whole : (c : tie.After-read-key) → readAt (recordForm (startsForm (text c))) (text c) 0
+whole : (c : tie.After-read-key) → read_at (record_form (starts_form (text c))) (text c) 0
     ≡ pick c.read-key.result.good (found (given c) c.read-key.result.place) (wrong c.read-key.result.place)
 whole c =
-    ap (λ (t : Bool). readAt (recordForm t) (text c) 0) (sym (start c).starts-form.ensures)
+    ap (λ (t : Bool). read_at (record_form t) (text c) 0) (sym (start c).starts-form.ensures)
     ∙ lines-read (two c) (text c)
     (form-line c).read-form.ensures
     (number-line c).read-line.ensures
@@ -90,25 +90,25 @@ whole c =
     c.before.read-literal3.ensures
     c.read-key.ensures
 
-is-wrong : (c : tie.After-read-key) → not c.read-key.result.good ≡ true → readAt (recordForm (startsForm (text c))) (text c) 0 ≡ wrong c.read-key.result.place
+is-wrong : (c : tie.After-read-key) → not c.read-key.result.good ≡ true → read_at (record_form (starts_form (text c))) (text c) 0 ≡ wrong c.read-key.result.place
 is-wrong c h = whole c ∙ pick-taken c.read-key.result.good _ _ h
 
 is_found : (c : tie.After-read-key) → not c.read-key.result.good ≡ false
-    → readAt (recordForm (startsForm (text c))) (text c) 0 ≡ found (given c) c.read-key.result.place
+    → read_at (record_form (starts_form (text c))) (text c) 0 ≡ found (given c) c.read-key.result.place
 is_found c h = whole c ∙ pick-left c.read-key.result.good _ _ h
 
 is-small : (c : tie.After-read-key) → not c.read-key.result.good ≡ false → Small (given c).fields
 is-small c h =
-    let r = spelt (recordForm (startsForm (text c))) (text c) 0 (given c) _ (is_found c h) in
-    small ((record-means (startsForm (text c))).only (given c) r.text r.spells).0
+    let r = spelt (record_form (starts_form (text c))) (text c) 0 (given c) _ (is_found c h) in
+    small ((record-means (starts_form (text c))).only (given c) r.text r.spells).0
 
 refused-at-requires : tie.Need-refused-at-requires
-refused-at-requires c κs = stop-within (stops (recordForm _) (record-means _).live _ 0 _ (is-wrong c.before.before c.if1.true)) zero-le
+refused-at-requires c κs = stop-within (stops (record_form _) (record-means _).live _ 0 _ (is-wrong c.before.before c.if1.true)) zero-le
 
 returns : tie.Need-returns
-unfolding recordRead
+unfolding record_read
 returns c =
-    c.refused-at.ensures ∙ sym (ap (readAnswer _) (is-wrong c.before.before.before c.before.if1.true))
+    c.refused-at.ensures ∙ sym (ap (read_answer _) (is-wrong c.before.before.before c.before.if1.true))
 
 cast-t43 : tie.Need-overflow-cast-t43
 cast-t43 c = record { fits = omega (arith, (is-small c.before.before.before.before c.before.before.if1.false).version) }
@@ -132,8 +132,8 @@ cast-t49 : tie.Need-overflow-cast-t49
 cast-t49 c = record { fits = omega (arith, (is-small c.before.before.before.before.before.before.before.before.before.before c.before.before.before.before.before.before.before.before.if1.false).mnc) }
 
 returns-2 : tie.Need-returns-2
-unfolding recordRead
-returns-2 c = sym (ap (readAnswer _) (is_found c.before.before.before.before.before.before.before.before.before.before c.before.before.before.before.before.before.before.before.if1.false))
+unfolding record_read
+returns-2 c = sym (ap (read_answer _) (is_found c.before.before.before.before.before.before.before.before.before.before c.before.before.before.before.before.before.before.before.if1.false))
 
 pub read-record-spec : {M : Type 1} → statement M
 read-record-spec =

@@ -1,8 +1,8 @@
 -- `record_reader::refused_at`: line and column are those that `line_of` and `column_of` find. Assumes nothing.
 use borrow.Author.Rules.{rules}
-use Rattle.refusals.specs.Numbers.{recordTextBad}
-use Rattle.record_reader.specs.Lines.{noKey}
-use Rattle.fields.specs.Fields.{noFields}
+use Rattle.refusals.specs.Numbers.{record_text_bad}
+use Rattle.record_reader.specs.Lines.{no_key}
+use Rattle.fields.specs.Fields.{no_fields}
 use Rattle.record_reader.proofs.refused_at.Statement.{statement}
 use Rattle.record_reader.proofs.refused_at.Tie as tie
 
@@ -10,13 +10,13 @@ returns : tie.Need-returns
 returns c =
     λ i.
     record {
-      refusal = recordTextBad;
+      refusal = record_text_bad;
       line = c.before.Line-of.ensures i;
       column = c.column-of.ensures i;
       used = 0;
       number = 0;
-      fields = noFields;
-      key = noKey;
+      fields = no_fields;
+      key = no_key;
     }
 
 pub refused-at-spec : {M : Type 1} → statement M

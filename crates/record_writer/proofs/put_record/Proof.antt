@@ -1,8 +1,8 @@
 -- `record_writer::put_record`: line after line, each with room for it and those that follow. Assumes nothing.
 use mathlib.Core.Path.{sym, ap}
 use borrow.Author.Rules.{rules}
-use Rattle.writing.specs.Text.{lineText}
-use Rattle.record_text.specs.Text.{linesText, formText}
+use Rattle.writing.specs.Text.{line_text}
+use Rattle.record_text.specs.Text.{lines_text, form_text}
 use Rattle.writing.proofs.Puts.{put_then, put-length, put_as, room-first, room-then, room_as}
 use Rattle.record_writer.proofs.put_record.Statement.{statement}
 use Rattle.record_writer.proofs.put_record.Tie as tie
@@ -27,65 +27,65 @@ abbrev usage : tie.After-put-last → tie.After-put-word-line2
 usage c = c.before.before.before.before
 
 put-bytes-requires : tie.Need-put-bytes-requires
-unfolding formText linesText
+unfolding form_text lines_text
 put-bytes-requires c κs = room-first _ c.before.before.before.requires
 
 put-line-requires : tie.Need-put-line-requires
-unfolding formText linesText
+unfolding form_text lines_text
 put-line-requires c κs =
     let l0 = c.before.before.before.before in
     room-first _ (room-then l0.put-bytes.ensures (start l0).requires)
 
 put-line-requires-2 : tie.Need-put-line-requires-2
-unfolding formText linesText
+unfolding form_text lines_text
 put-line-requires-2 c κs =
     let l1 = c.before.before.before.before.before in
     let l0 = first l1 in
     room-first _ (room-then l1.put-line.ensures (room-then l0.put-bytes.ensures (start l0).pre))
 
 put-word-line-requires : tie.Need-put-word-line-requires
-unfolding formText linesText
+unfolding form_text lines_text
 put-word-line-requires c κs =
     let l2 = c.before.before.before.before.before in
     let l1 = number l2 in
     let l0 = first l1 in
-    room_as (sym (ap (lineText "alg=") c.name.ensures))
+    room_as (sym (ap (line_text "alg=") c.name.ensures))
     (room-first _ (room-then l2.put-line2.ensures (room-then l1.put-line.ensures (room-then l0.put-bytes.ensures (start l0).pre))))
 
 put-word-line-requires-2 : tie.Need-put-word-line-requires-2
-unfolding formText linesText
+unfolding form_text lines_text
 put-word-line-requires-2 c κs =
     let l3 = c.before.before.before.before.before in
     let l2 = version l3 in
     let l1 = number l2 in
     let l0 = first l1 in
-    let p3 = put_as (ap (lineText "alg=") l3.before.name.ensures) l3.put-word-line.ensures in
-    room_as (sym (ap (lineText "use=") c.use-word.ensures))
+    let p3 = put_as (ap (line_text "alg=") l3.before.name.ensures) l3.put-word-line.ensures in
+    room_as (sym (ap (line_text "use=") c.use-word.ensures))
     (room-first _ (room-then p3 (room-then l2.put-line2.ensures (room-then l1.put-line.ensures (room-then l0.put-bytes.ensures (start l0).pre)))))
 
 put-last-requires : tie.Need-put-last-requires
-unfolding formText linesText
+unfolding form_text lines_text
 put-last-requires c κs =
     let l4 = c.before.before.before in
     let l3 = algorithm l4 in
     let l2 = version l3 in
     let l1 = number l2 in
     let l0 = first l1 in
-    let p3 = put_as (ap (lineText "alg=") l3.before.name.ensures) l3.put-word-line.ensures in
-    let p4 = put_as (ap (lineText "use=") l4.before.use-word.ensures) l4.put-word-line2.ensures in
+    let p3 = put_as (ap (line_text "alg=") l3.before.name.ensures) l3.put-word-line.ensures in
+    let p4 = put_as (ap (line_text "use=") l4.before.use-word.ensures) l4.put-word-line2.ensures in
     room-then p4
     (room-then p3 (room-then l2.put-line2.ensures (room-then l1.put-line.ensures (room-then l0.put-bytes.ensures (start l0).pre))))
 
 returns : tie.Need-returns
-unfolding formText linesText
+unfolding form_text lines_text
 returns c =
     let l5 = c.before.before in
     let l4 = usage l5 in
     let l3 = algorithm l4 in
     let l2 = version l3 in
     let l1 = number l2 in
-    let p3 = put_as (ap (lineText "alg=") l3.before.name.ensures) l3.put-word-line.ensures in
-    let p4 = put_as (ap (lineText "use=") l4.before.use-word.ensures) l4.put-word-line2.ensures in
+    let p3 = put_as (ap (line_text "alg=") l3.before.name.ensures) l3.put-word-line.ensures in
+    let p4 = put_as (ap (line_text "use=") l4.before.use-word.ensures) l4.put-word-line2.ensures in
     put_then (first l1).put-bytes.ensures
     (put_then l1.put-line.ensures (put_then l2.put-line2.ensures (put_then p3 (put_then p4 l5.put_last.ensures))))
 

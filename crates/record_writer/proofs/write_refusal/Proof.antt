@@ -6,17 +6,17 @@ use Prim.Native.Nat.{ℕ}
 use lib.ListN.{length}
 use borrow.Author.Rules.{rules}
 use Rattle.laws.specs.Choice.{pick}
-use Rattle.refusals.specs.Numbers.{slotNumberBad, algorithmUnknown}
-use Rattle.fields.specs.Fields.{isSlotNumber, isAlgorithm, rightsRefusal, storedOf}
-use Rattle.record_text.specs.Text.{recordText}
+use Rattle.refusals.specs.Numbers.{slot_number_bad, algorithm_unknown}
+use Rattle.fields.specs.Fields.{is_slot_number, is_algorithm, rights_refusal, stored_of}
+use Rattle.record_text.specs.Text.{record_text}
 use Rattle.record_text.proofs.Lengths.{text-length}
-use Rattle.record_writer.specs.Written.{writeRefusal}
+use Rattle.record_writer.specs.Written.{write_refusal}
 use Rattle.record_writer.proofs.Refusals.{right, after-rights}
 use Rattle.record_writer.proofs.write_refusal.Statement.{statement}
 use Rattle.record_writer.proofs.write_refusal.Tie as tie
 
 returns : tie.Need-returns
-unfolding writeRefusal
+unfolding write_refusal
 returns c key size =
     let three = c.before in
     let two = three.before in
@@ -36,9 +36,9 @@ returns c key size =
       numbered.is-slot-number.ensures,
       rights.rights-refusal.ensures,
     )
-    (ap (λ (later : ℕ). pick (not (isSlotNumber number)) slotNumberBad (pick (not (isAlgorithm asked.algorithm)) algorithmUnknown later))
-    (after-rights (rightsRefusal asked) rights.before.args.room _ (length (recordText number (storedOf asked) key))
-    (λ e. long.text-length.ensures ∙ sym (text-length number (storedOf asked) key (right asked e).side size))))
+    (ap (λ (later : ℕ). pick (not (is_slot_number number)) slot_number_bad (pick (not (is_algorithm asked.algorithm)) algorithm_unknown later))
+    (after-rights (rights_refusal asked) rights.before.args.room _ (length (record_text number (stored_of asked) key))
+    (λ e. long.text-length.ensures ∙ sym (text-length number (stored_of asked) key (right asked e).side size))))
 
 pub write-refusal-spec : {M : Type 1} → statement M
 write-refusal-spec =

@@ -4,14 +4,14 @@ use Prim.Native.Nat.{◌-◌, ◌≤◌}
 use native.Mathlib.Omega.{arith}
 use borrow.Author.Rules.{rules}
 use Rattle.rijndael.specs.Cipher.{rounds, encrypted}
-use Rattle.round_steps.specs.Steps.{roundOf}
-use Rattle.rounds.specs.Columns.{ofWords}
+use Rattle.round_steps.specs.Steps.{round_of}
+use Rattle.rounds.specs.Columns.{of_words}
 use Rattle.rijndael.proofs.Rounds.{rounds-more}
 use Rattle.rijndael.proofs.encrypt.Statement.{statement}
 use Rattle.rijndael.proofs.encrypt.Tie as tie
 
 abbrev invariant-loop : tie.invariant-loop
-invariant-loop w table mixes t₀ n₀ t n = ((1 ≤ n) × (n ≤ 14)) × (ofWords t ≡ rounds w (ofWords t₀) (n - 1))
+invariant-loop w table mixes t₀ n₀ t n = ((1 ≤ n) × (n ≤ 14)) × (of_words t ≡ rounds w (of_words t₀) (n - 1))
 
 abbrev decreases-loop : tie.decreases-loop
 decreases-loop w table mixes t₀ n₀ t n = 14 - n
@@ -23,7 +23,7 @@ loop-holds c = (search rules, refl)
 loop-again : tie.Need-loop-preserved invariant-loop decreases-loop
 loop-again c =
     let g = c.before.before.before.before.loop.invariant in
-    (search rules, c.to-words.ensures ∙ c.before.round.ensures ∙ ap (roundOf _ _) (c.before.before.from-words.ensures ∙ g.1) ∙ rounds-more _ _ _ g.0.0)
+    (search rules, c.to-words.ensures ∙ c.before.round.ensures ∙ ap (round_of _ _) (c.before.before.from-words.ensures ∙ g.1) ∙ rounds-more _ _ _ g.0.0)
 
 returns : tie.Need-returns invariant-loop decreases-loop
 unfolding encrypted

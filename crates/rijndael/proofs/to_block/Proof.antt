@@ -2,7 +2,7 @@
 use mathlib.Core.Path.{refl}
 use Prim.Native.Nat.{◌-◌, ◌*◌, ◌/◌, ◌%◌, ◌<◌}
 use borrow.Author.Rules.{rules}
-use Rattle.rijndael.specs.Cipher.{toBlock}
+use Rattle.rijndael.specs.Cipher.{to_block}
 use Rattle.laws.proofs.Lists.{fill_none, fill-all}
 use Rattle.laws.specs.Lists.{cell, Filled}
 use Rattle.rijndael.proofs.Rounds.{quarter-more}
@@ -26,7 +26,7 @@ loop-again c =
     quarter-more s k h c.before.before.before.before.before.loop.invariant
 
 returns : tie.Need-returns invariant-loop decreases-loop
-unfolding toBlock
+unfolding to_block
 returns c = fill-all c.before.loop.invariant (search rules)
 
 pub to-block-spec : {M : Type 1} → statement M

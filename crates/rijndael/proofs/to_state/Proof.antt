@@ -4,7 +4,7 @@ use Prim.Native.Nat.{ℕ, ◌+◌, ◌-◌, ◌*◌}
 use native.Mathlib.Nat.{add-zero}
 use borrow.Author.Rules.{rules}
 use lib.ListN.{get_or}
-use Rattle.rijndael.specs.Cipher.{toState}
+use Rattle.rijndael.specs.Cipher.{to_state}
 use Rattle.laws.proofs.States.{Columns, columns-none, columns-more, columns-all, zero-shape}
 use Rattle.rijndael.proofs.to_state.Statement.{statement}
 use Rattle.rijndael.proofs.to_state.Tie as tie
@@ -24,7 +24,7 @@ loop-again c =
     columns-more c.before.loop.invariant c.loop-test.true _ _ _ _ (ap (λ (k : ℕ). get_or b k 0) (sym (add-zero (4 * c.before.loop.c)))) refl refl refl
 
 returns : tie.Need-returns invariant-loop decreases-loop
-unfolding toState
+unfolding to_state
 returns c = columns-all c.before.loop.invariant c.loop-test.false
 
 pub to-state-spec : {M : Type 1} → statement M

@@ -4,7 +4,7 @@ use Prim.Native.Nat.{◌+◌, ◌-◌, ◌*◌}
 use borrow.Author.Rules.{rules}
 use lib.Bits.{bit_xor}
 use lib.ListN.{get_or}
-use Rattle.round_steps.specs.Steps.{addRoundKey}
+use Rattle.round_steps.specs.Steps.{add_round_key}
 use Rattle.laws.proofs.States.{Columns, columns-none, columns-more, columns-all, state-shape}
 use Rattle.laws.specs.Lists.{cell}
 use Rattle.words.specs.Words.{byte_of}
@@ -33,7 +33,7 @@ loop-again c =
     (ap (bit_xor (cell s 3 k)) c.byte3.ensures)
 
 returns : tie.Need-returns invariant-loop decreases-loop
-unfolding addRoundKey
+unfolding add_round_key
 returns c = columns-all c.before.loop.invariant c.loop-test.false
 
 pub add-round-key-spec : {M : Type 1} → statement M

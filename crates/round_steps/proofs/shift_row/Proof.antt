@@ -2,7 +2,7 @@
 use mathlib.Core.Path.{refl, ap}
 use Prim.Native.Nat.{◌+◌, ◌-◌, ◌%◌}
 use borrow.Author.Rules.{rules}
-use Rattle.round_steps.specs.Steps.{shift_of, shiftRow}
+use Rattle.round_steps.specs.Steps.{shift_of, shift_row}
 use Rattle.laws.proofs.States.{Columns, columns-none, columns-more, columns-all, state-shape}
 use Rattle.laws.proofs.InRows.{not-turned}
 use Rattle.laws.specs.Lists.{cell}
@@ -10,7 +10,7 @@ use Rattle.round_steps.proofs.shift_row.Statement.{statement}
 use Rattle.round_steps.proofs.shift_row.Tie as tie
 
 pub shift-row-spec : {M : Type 1} → statement M
-unfolding shiftRow
+unfolding shift_row
 shift-row-spec =
     tie.close
     (tie.spec

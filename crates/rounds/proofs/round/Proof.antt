@@ -1,13 +1,13 @@
--- `rounds::round`: column by column, `byHalf`: each is its mixed word with the key. Assumes nothing.
+-- `rounds::round`: column by column, `by_half`: each is its mixed word with the key. Assumes nothing.
 use Prim.Native.Nat.{◌-◌, ◌*◌}
 use borrow.Author.Rules.{rules}
 use Rattle.laws.proofs.States.{Placed, place_none, state-shape}
-use Rattle.rounds.proofs.Columns.{byHalf, rounded, small, fewer, round-more, round-all}
+use Rattle.rounds.proofs.Columns.{by_half, rounded, small, fewer, round-more, round-all}
 use Rattle.rounds.proofs.round.Statement.{statement}
 use Rattle.rounds.proofs.round.Tie as tie
 
 abbrev invariant-loop : tie.invariant-loop
-invariant-loop w n mixes s t₀ e₀ t e = Placed byHalf (rounded w n s) t (4 * e)
+invariant-loop w n mixes s t₀ e₀ t e = Placed by_half (rounded w n s) t (4 * e)
 
 abbrev decreases-loop : tie.decreases-loop
 decreases-loop w n mixes s t₀ e₀ t e = 8 - e

@@ -2,7 +2,7 @@
 use mathlib.Core.Path.{◌∙◌}
 use Prim.Native.Nat.{◌-◌, ◌≤◌}
 use borrow.Author.Rules.{rules}
-use Rattle.schedule.specs.Schedule.{packed, keyWord}
+use Rattle.schedule.specs.Schedule.{packed, key_word}
 use Rattle.laws.proofs.Lists.{fill_none, fill_more, fill-to}
 use Rattle.laws.specs.Lists.{Filled}
 use Rattle.schedule.proofs.KeyWords.{word_first}
@@ -10,7 +10,7 @@ use Rattle.schedule.proofs.key_words.Statement.{statement}
 use Rattle.schedule.proofs.key_words.Tie as tie
 
 abbrev invariant-loop : tie.invariant-loop
-invariant-loop w₀ key i₀ w i = (i ≤ 6) × Filled (keyWord key) 0 120 w i
+invariant-loop w₀ key i₀ w i = (i ≤ 6) × Filled (key_word key) 0 120 w i
 
 abbrev decreases-loop : tie.decreases-loop
 decreases-loop w₀ key i₀ w i = 6 - i

@@ -5,7 +5,7 @@ use Prim.Native.Nat.{ℕ, ◌+◌, ◌-◌, ◌*◌, ◌≤◌}
 use native.Mathlib.Omega.{arith}
 use borrow.Author.Rules.{rules}
 use lib.ListN.{length, get_or}
-use Rattle.schedule.specs.Schedule.{keyWord}
+use Rattle.schedule.specs.Schedule.{key_word}
 use Rattle.laws.proofs.Lists.{fill-to}
 use Rattle.laws.specs.Lists.{Filled}
 use Rattle.schedule.proofs.more_words.Statement.{statement}
@@ -13,7 +13,7 @@ use Rattle.schedule.proofs.more_words.Tie as tie
 
 abbrev invariant-loop : tie.invariant-loop
 invariant-loop w₀ table last₀ k₀ w last k =
-    ((1 ≤ k) × (k ≤ 20)) × ((length w ≡ 120) × ((last ≡ get_or w (6 * k - 1) 0) × ((key : List ℕ) → Filled (keyWord key) 0 120 w₀ 6 → Filled (keyWord key) 0 120 w (6 * k))))
+    ((1 ≤ k) × (k ≤ 20)) × ((length w ≡ 120) × ((last ≡ get_or w (6 * k - 1) 0) × ((key : List ℕ) → Filled (key_word key) 0 120 w₀ 6 → Filled (key_word key) 0 120 w (6 * k))))
 
 abbrev decreases-loop : tie.decreases-loop
 decreases-loop w₀ table last₀ k₀ w last k = 20 - k

@@ -5,7 +5,7 @@ use native.Mathlib.Omega.{arith}
 use borrow.Author.Rules.{rules}
 use lib.Bits.{bit_xor}
 use lib.ListN.{get_or, set, length-set}
-use Rattle.schedule.specs.Schedule.{rotByte, subByte, roundConstant}
+use Rattle.schedule.specs.Schedule.{rot_byte, sub_byte, round_constant}
 use Rattle.schedule.proofs.KeyWords.{into, turn_last, stored, six-more}
 use Rattle.schedule.proofs.six_words.Statement.{statement}
 use Rattle.schedule.proofs.six_words.Tie as tie
@@ -47,7 +47,7 @@ returns c =
         stored five (6 * a.k + 5) (bit_xor (bit_xor r a.last) v) (simp length-set (omega arith)),
         λ key g.
             six-more key w a.k g e.1.0.0 e.1.0.1 _ _ _ _ _ _
-            ((λ i. bit_xor (bit_xor (get_or w (6 * a.k - 6) 0) (constant.ensures i * 16777216)) ((c.substituted-word.ensures ∙ ap (λ (l : ℕ). subByte (rotByte l)) e.1.1.0) i)) ∙ turn_last (get_or w (6 * a.k - 6) 0) (roundConstant (a.k - 1) * 16777216) (subByte (rotByte (get_or w (6 * a.k - 1) 0))))
+            ((λ i. bit_xor (bit_xor (get_or w (6 * a.k - 6) 0) (constant.ensures i * 16777216)) ((c.substituted-word.ensures ∙ ap (λ (l : ℕ). sub_byte (rot_byte l)) e.1.1.0) i)) ∙ turn_last (get_or w (6 * a.k - 6) 0) (round_constant (a.k - 1) * 16777216) (sub_byte (rot_byte (get_or w (6 * a.k - 1) 0))))
             refl (into y (get_or w (6 * a.k - 4) 0) v) (into p (get_or w (6 * a.k - 3) 0) v) (into q (get_or w (6 * a.k - 2) 0) v)
             (into r a.last v ∙ ap (λ (l : ℕ). bit_xor l (bit_xor r v)) e.1.1.0),
       ),

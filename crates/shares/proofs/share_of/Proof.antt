@@ -3,7 +3,7 @@ use mathlib.Core.Path.{◌≡◌, sym, subst, ap, ◌∙◌}
 use Prim.Native.Nat.{ℕ, ◌<◌, ◌/◌}
 use native.Mathlib.Nat.{pos_of_dvd_of_pos}
 use borrow.Author.Tests.{eq-eqb, ne_eqb}
-use Rattle.shares.specs.Share.{gcd, fractionOf, share_of}
+use Rattle.shares.specs.Share.{gcd, fraction_of, share_of}
 use Rattle.shares.proofs.Euclid.{gcd-divides}
 use Rattle.shares.proofs.Lowest.{positive_of}
 use borrow.Author.Rules.{rules}
@@ -27,7 +27,7 @@ div-fraction-2 c = above c
 
 returns-2 : tie.Need-returns-2
 unfolding share_of
-returns-2 c = rw (ne_eqb _ _ c.before.before.if1.false) (c.fraction2.ensures ∙ ap (λ (g : ℕ). fractionOf (c.before.before.before.args.part / g) (c.before.before.before.args.whole / g)) c.before.gcd.ensures)
+returns-2 c = rw (ne_eqb _ _ c.before.before.if1.false) (c.fraction2.ensures ∙ ap (λ (g : ℕ). fraction_of (c.before.before.before.args.part / g) (c.before.before.before.args.whole / g)) c.before.gcd.ensures)
 
 pub share-of-spec : {M : Type 1} → statement M
 share-of-spec =

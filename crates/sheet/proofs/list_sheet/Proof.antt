@@ -3,13 +3,13 @@ use mathlib.Core.Path.{refl, ap}
 use borrow.Author.Rules.{rules}
 use borrow.Author.Tests.{lt-ltb}
 use Rattle.writing.proofs.Puts.{put_as}
-use Rattle.sheet.specs.Sheet.{loadedText, listing, listedLength, listedBuffer}
+use Rattle.sheet.specs.Sheet.{loaded_text, listing, listed_length, listed_buffer}
 use Rattle.sheet.proofs.Listed.{listed}
 use Rattle.sheet.proofs.list_sheet.Statement.{statement}
 use Rattle.sheet.proofs.list_sheet.Tie as tie
 
 returns : tie.Need-returns
-unfolding listedLength listedBuffer
+unfolding listed_length listed_buffer
 returns c = rw (lt-ltb _ _ c.if1.true) (refl, refl)
 
 returns-2 : tie.Need-returns-2
@@ -18,7 +18,7 @@ returns-2 c =
     let call = c.before.before in
     let load = call.before in
     let put = call.put-loaded.ensures in
-    listed _ _ load.before.before.if1.false put.0 (put_as (ap loadedText load.load-all.ensures) put.1)
+    listed _ _ load.before.before.if1.false put.0 (put_as (ap loaded_text load.load-all.ensures) put.1)
 
 pub list-sheet-spec : {M : Type 1} → statement M
 list-sheet-spec =

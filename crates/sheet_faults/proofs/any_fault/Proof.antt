@@ -4,13 +4,13 @@ use Prim.Native.Nat.{◌-◌, ◌≤◌}
 use native.Mathlib.Omega.{arith}
 use lib.ListN.{length, drop}
 use borrow.Author.Rules.{rules}
-use Rattle.sheet_faults.specs.Sheet.{lines_of, anyFault}
+use Rattle.sheet_faults.specs.Sheet.{lines_of, any_fault}
 use Rattle.sheet_faults.proofs.Lines.{lines_end, fault-here, fault-on}
 use Rattle.sheet_faults.proofs.any_fault.Statement.{statement}
 use Rattle.sheet_faults.proofs.any_fault.Tie as tie
 
 abbrev invariant-loop : tie.invariant-loop
-invariant-loop text fault at₀ at = (at ≤ length text) × (anyFault fault (lines_of text) ≡ anyFault fault (lines_of (drop at text)))
+invariant-loop text fault at₀ at = (at ≤ length text) × (any_fault fault (lines_of text) ≡ any_fault fault (lines_of (drop at text)))
 
 abbrev decreases-loop : tie.decreases-loop
 decreases-loop text fault at₀ at = length text - at
@@ -32,11 +32,11 @@ loop-again c =
     )
 
 returns-2 : tie.Need-returns-2 invariant-loop decreases-loop
-unfolding anyFault
+unfolding any_fault
 returns-2 c =
     let loop = c.before in
     let args = loop.before.before.args in
-    sym (loop.loop.invariant.1 ∙ ap (anyFault args.fault) (lines_end args.text.now loop.loop.at c.loop-test.false))
+    sym (loop.loop.invariant.1 ∙ ap (any_fault args.fault) (lines_end args.text.now loop.loop.at c.loop-test.false))
 
 pub any-fault-spec : {M : Type 1} → statement M
 any-fault-spec =

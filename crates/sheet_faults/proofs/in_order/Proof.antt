@@ -4,16 +4,16 @@ use Prim.Native.Nat.{ℕ, ◌-◌, ◌+◌, ◌≤◌}
 use native.Mathlib.Omega.{arith}
 use lib.ListN.{length, drop}
 use borrow.Author.Rules.{rules}
-use Rattle.line_parts.specs.Line.{nameIn}
+use Rattle.line_parts.specs.Line.{name_in}
 use Rattle.line_names.proofs.Same.{number-most}
-use Rattle.sheet_faults.specs.Sheet.{lines_of, inOrderFrom}
+use Rattle.sheet_faults.specs.Sheet.{lines_of, in_order_from}
 use Rattle.sheet_faults.proofs.Lines.{lines_end, order-here, order-on}
 use Rattle.sheet_faults.proofs.in_order.Statement.{statement}
 use Rattle.sheet_faults.proofs.in_order.Tie as tie
 
 abbrev invariant-loop : tie.invariant-loop
 invariant-loop text least₀ at₀ least at =
-    (at ≤ length text) × (inOrderFrom 0 (lines_of text) ≡ inOrderFrom least (lines_of (drop at text)))
+    (at ≤ length text) × (in_order_from 0 (lines_of text) ≡ in_order_from least (lines_of (drop at text)))
 
 abbrev decreases-loop : tie.decreases-loop
 decreases-loop text least₀ at₀ least at = length text - at
@@ -26,7 +26,7 @@ returns c =
     ∙ order-here _ _ test.loop-test.true line.line_at_lem.ensures (omega (arith, c.before.number_in.ensures, c.if1.true)))
 
 add-least : tie.Need-overflow-add-least invariant-loop decreases-loop
-add-least c = record { fits = omega (arith, c.before.number_in.ensures, number-most (nameIn c.before.before.line_at_lem.result.now)) }
+add-least c = record { fits = omega (arith, c.before.number_in.ensures, number-most (name_in c.before.before.line_at_lem.result.now)) }
 
 loop-again : tie.Need-loop-preserved invariant-loop decreases-loop
 loop-again c =
@@ -36,15 +36,15 @@ loop-again c =
       c.next-line.ensures.2,
       test.before.loop.invariant.1
           ∙ order-on _ _ test.loop-test.true line.line_at_lem.ensures c.next-line.ensures.0 (omega (arith, c.before.before.number_in.ensures, c.before.if1.false))
-          ∙ ap (λ (k : ℕ). inOrderFrom (k + 1) (lines_of (drop c.next-line.result text))) (sym c.before.before.number_in.ensures),
+          ∙ ap (λ (k : ℕ). in_order_from (k + 1) (lines_of (drop c.next-line.result text))) (sym c.before.before.number_in.ensures),
     )
 
 returns-2 : tie.Need-returns-2 invariant-loop decreases-loop
-unfolding inOrderFrom
+unfolding in_order_from
 returns-2 c =
     let loop = c.before in
     let args = loop.before.before.args in
-    sym (loop.loop.invariant.1 ∙ ap (inOrderFrom loop.loop.least) (lines_end args.text.now loop.loop.at c.loop-test.false))
+    sym (loop.loop.invariant.1 ∙ ap (in_order_from loop.loop.least) (lines_end args.text.now loop.loop.at c.loop-test.false))
 
 pub in-order-spec : {M : Type 1} → statement M
 in-order-spec =

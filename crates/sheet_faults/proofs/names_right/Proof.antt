@@ -5,22 +5,22 @@ use Prim.Native.Nat.{◌-◌, ◌+◌}
 use native.Mathlib.Omega.{arith}
 use borrow.Author.Rules.{rules}
 use borrow.Author.Tests.{eqb-true, eqb-false, not-true, not-false}
-use Rattle.line_names.specs.Names.{nameCount}
-use Rattle.sheet_faults.specs.Sheet.{lines_of, namesRightFrom, namesRight}
+use Rattle.line_names.specs.Names.{name_count}
+use Rattle.sheet_faults.specs.Sheet.{lines_of, names_right_from, names_right}
 use Rattle.sheet_faults.proofs.Lines.{names-on, names-wrong, names-all}
 use Rattle.sheet_faults.proofs.names_right.Statement.{statement}
 use Rattle.sheet_faults.proofs.names_right.Tie as tie
 
 abbrev invariant-loop : tie.invariant-loop
-invariant-loop text two k₀ k = namesRight (lines_of text) ≡ namesRightFrom two (lines_of text) k (nameCount + 1 - k)
+invariant-loop text two k₀ k = names_right (lines_of text) ≡ names_right_from two (lines_of text) k (name_count + 1 - k)
 
 abbrev decreases-loop : tie.decreases-loop
-decreases-loop text two k₀ k = nameCount + 1 - k
+decreases-loop text two k₀ k = name_count + 1 - k
 
 loop-holds : tie.Need-loop-init invariant-loop decreases-loop
-unfolding namesRight
+unfolding names_right
 loop-holds c =
-    ap (λ (two : Bool). namesRightFrom two (lines_of c.before.before.args.text.now) 0 (nameCount + 1)) (sym c.is-form-two.ensures)
+    ap (λ (two : Bool). names_right_from two (lines_of c.before.before.args.text.now) 0 (name_count + 1)) (sym c.is-form-two.ensures)
 
 returns : tie.Need-returns invariant-loop decreases-loop
 returns c =

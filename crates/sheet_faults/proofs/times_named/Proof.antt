@@ -6,15 +6,15 @@ use lib.Dec.{eqb}
 use lib.ListN.{length, drop}
 use borrow.Author.Rules.{rules}
 use Rattle.laws.specs.Choice.{pick}
-use Rattle.line_names.specs.Names.{numberIn}
-use Rattle.sheet_faults.specs.Sheet.{lines_of, timesNamed}
+use Rattle.line_names.specs.Names.{number_in}
+use Rattle.sheet_faults.specs.Sheet.{lines_of, times_named}
 use Rattle.sheet_faults.proofs.Lines.{lines_end, times-on, at_most_one}
 use Rattle.sheet_faults.proofs.times_named.Statement.{statement}
 use Rattle.sheet_faults.proofs.times_named.Tie as tie
 
 abbrev invariant-loop : tie.invariant-loop
 invariant-loop text k times₀ at₀ times at =
-    (at ≤ length text) × (times ≤ at) × (timesNamed k (lines_of text) ≡ times + timesNamed k (lines_of (drop at text)))
+    (at ≤ length text) × (times ≤ at) × (times_named k (lines_of text) ≡ times + times_named k (lines_of (drop at text)))
 
 abbrev decreases-loop : tie.decreases-loop
 decreases-loop text k times₀ at₀ times at = length text - at
@@ -31,7 +31,7 @@ loop-again c =
     let test = call.before.before.before in
     let loop = test.before in
     let args = loop.before.before.args in
-    let one : call.one-if.result ≡ pick (eqb (numberIn call.before.before.line_at_lem.result.now) args.k) 1 0 =
+    let one : call.one-if.result ≡ pick (eqb (number_in call.before.before.line_at_lem.result.now) args.k) 1 0 =
     call.one-if.ensures ∙ ap (λ (n : ℕ). pick (eqb n args.k) 1 0) call.before.number_in.ensures in (
       c.next-line.ensures.2,
       omega (arith, c.next-line.ensures.1, call.one-if.ensures, at_most_one (eqb call.before.number_in.result args.k)),
@@ -39,11 +39,11 @@ loop-again c =
     )
 
 returns : tie.Need-returns invariant-loop decreases-loop
-unfolding timesNamed
+unfolding times_named
 returns c =
     let loop = c.before in
     let args = loop.before.before.args in
-    omega (arith, ap (timesNamed args.k) (lines_end args.text.now loop.loop.at c.loop-test.false))
+    omega (arith, ap (times_named args.k) (lines_end args.text.now loop.loop.at c.loop-test.false))
 
 pub times-named-spec : {M : Type 1} → statement M
 times-named-spec =

@@ -5,13 +5,13 @@ use native.Mathlib.Omega.{arith}
 use lib.ListN.{length, drop}
 use lib.Seq.{drop-length}
 use borrow.Author.Rules.{rules}
-use Rattle.sheet_faults.specs.Sheet.{lines_of, valueNamed}
+use Rattle.sheet_faults.specs.Sheet.{lines_of, value_named}
 use Rattle.sheet_faults.proofs.Lines.{lines_end, value-here, value_on}
 use Rattle.sheet_faults.proofs.value_named.Statement.{statement}
 use Rattle.sheet_faults.proofs.value_named.Tie as tie
 
 abbrev invariant-loop : tie.invariant-loop
-invariant-loop text k at₀ at = (at ≤ length text) × (valueNamed k (lines_of text) ≡ valueNamed k (lines_of (drop at text)))
+invariant-loop text k at₀ at = (at ≤ length text) × (value_named k (lines_of text) ≡ value_named k (lines_of (drop at text)))
 
 abbrev decreases-loop : tie.decreases-loop
 decreases-loop text k at₀ at = length text - at
@@ -34,12 +34,12 @@ loop-again c =
     )
 
 returns-2 : tie.Need-returns-2 invariant-loop decreases-loop
-unfolding valueNamed
+unfolding value_named
 returns-2 c =
     let loop = c.before.before in
     let args = loop.before.before.args in
     c.rest.ensures ∙ drop-length args.text.now
-    ∙ sym (loop.loop.invariant.1 ∙ ap (valueNamed args.k) (lines_end args.text.now loop.loop.at c.before.loop-test.false))
+    ∙ sym (loop.loop.invariant.1 ∙ ap (value_named args.k) (lines_end args.text.now loop.loop.at c.before.loop-test.false))
 
 pub value-named-spec : {M : Type 1} → statement M
 value-named-spec =

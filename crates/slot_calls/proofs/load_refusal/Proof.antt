@@ -1,11 +1,11 @@
 -- `slot_calls::load_refusal`: each test is the definition's, and so is their order. Assumes nothing.
 use borrow.Author.Rules.{rules}
-use Rattle.slot_calls.specs.Calls.{loadRefusalOf}
+use Rattle.slot_calls.specs.Calls.{load_refusal_of}
 use Rattle.slot_calls.proofs.load_refusal.Statement.{statement}
 use Rattle.slot_calls.proofs.load_refusal.Tie as tie
 
 returns : tie.Need-returns
-unfolding loadRefusalOf
+unfolding load_refusal_of
 returns c =
     let four = c.before.before in
     let two = four.before.before in

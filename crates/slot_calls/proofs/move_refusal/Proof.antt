@@ -3,21 +3,21 @@ use mathlib.Core.Bool.{Bool, true, false, ◌||◌, not}
 use mathlib.Core.Path.{◌≡◌, refl, ◌∙◌}
 use Prim.Native.Nat.{ℕ}
 use borrow.Author.Rules.{rules}
-use Rattle.refusals.specs.Numbers.{slotNumberBad, tableBad, refuse}
-use Rattle.fields.specs.Fields.{isSlotNumber}
-use Rattle.slot_calls.specs.Calls.{moveRefusalOf}
+use Rattle.refusals.specs.Numbers.{slot_number_bad, table_bad, refuse}
+use Rattle.fields.specs.Fields.{is_slot_number}
+use Rattle.slot_calls.specs.Calls.{move_refusal_of}
 use Rattle.slots.proofs.Tables.{keyless-empty}
 use Rattle.slot_calls.proofs.move_refusal.Statement.{statement}
 use Rattle.slot_calls.proofs.move_refusal.Tie as tie
 
 -- two rungs with one number are one rung
 one-rung : (bad from to : Bool) (later : ℕ)
-    → refuse bad tableBad (refuse from slotNumberBad (refuse to slotNumberBad later)) ≡ refuse bad tableBad (refuse (from || to) slotNumberBad later)
+    → refuse bad table_bad (refuse from slot_number_bad (refuse to slot_number_bad later)) ≡ refuse bad table_bad (refuse (from || to) slot_number_bad later)
 one-rung bad true to later = refl
 one-rung bad false to later = refl
 
 returns : tie.Need-returns
-unfolding moveRefusalOf
+unfolding move_refusal_of
 returns c =
     let six = c.before in
     let five = six.before in
@@ -33,7 +33,7 @@ returns c =
     let from = to.before in
     let a = from.before.args in
     rw (c.refuse7.ensures, six.refuse6.ensures, five.refuse5.ensures, to.is-slot-number2.ensures, from.is-slot-number.ensures)
-    (one-rung a.bad (not (isSlotNumber a.from)) (not (isSlotNumber a.to)) four.refuse4.result
+    (one-rung a.bad (not (is_slot_number a.from)) (not (is_slot_number a.to)) four.refuse4.result
     ∙ rw (four.refuse4.ensures, three.refuse3.ensures, two.refuse2.ensures, one.refuse.ensures, may.may-move.ensures, code.is-asked-use.ensures, filled.are-filled.ensures, empty.is-no-fields.ensures, keyless-empty a.f))
 
 pub move-refusal-spec : {M : Type 1} → statement M

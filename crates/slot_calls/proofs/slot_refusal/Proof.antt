@@ -1,12 +1,12 @@
 -- `slot_calls::slot_refusal`: each test is the definition's, and so is their order. Assumes nothing.
 use borrow.Author.Rules.{rules}
-use Rattle.slot_calls.specs.Calls.{slotRefusalOf}
+use Rattle.slot_calls.specs.Calls.{slot_refusal_of}
 use Rattle.slots.proofs.Tables.{keyless-empty}
 use Rattle.slot_calls.proofs.slot_refusal.Statement.{statement}
 use Rattle.slot_calls.proofs.slot_refusal.Tie as tie
 
 returns : tie.Need-returns
-unfolding slotRefusalOf
+unfolding slot_refusal_of
 returns c =
     let one = c.before in
     let none = one.before in

@@ -3,17 +3,17 @@ use mathlib.Core.Path.{◌≡◌, sym, ◌∙◌}
 use mathlib.Core.Bool.{true}
 use native.Mathlib.Omega.{arith}
 use borrow.Author.Rules.{rules}
-use Rattle.slots.specs.Slots.{isFilled}
+use Rattle.slots.specs.Slots.{is_filled}
 use Rattle.writing.proofs.Puts.{put_as, put-none}
 use Rattle.slot_lines.proofs.Lines.{filled-text, empty-text}
 use Rattle.slot_lines.proofs.put_slot.Statement.{statement}
 use Rattle.slot_lines.proofs.put_slot.Tie as tie
 
-is-filled : (c : tie.Then1) → isFilled c.before.before.before.args.slot ≡ true
+is-filled : (c : tie.Then1) → is_filled c.before.before.before.args.slot ≡ true
 is-filled c = sym c.before.is-filled.ensures ∙ c.if1.true
 
 put-slot-line-requires : tie.Need-put-slot-line-requires
-unfolding isFilled
+unfolding is_filled
 put-slot-line-requires c κs =
     let test = c.before.before in
     let pre = test.before.before.before.requires in

@@ -7,7 +7,7 @@ use lib.ListN.{length}
 use Rattle.writing.specs.Writing.{Room}
 use Rattle.writing.proofs.Puts.{put_as, room_as, put-length}
 use Rattle.writing.specs.Text.{item}
-use Rattle.slot_lines.specs.Lines.{slotLine, longestLine}
+use Rattle.slot_lines.specs.Lines.{slot_line, longest_line}
 use Rattle.writing.proofs.Left.{left-all, left-room, left-next, left-last, next-room}
 use Rattle.slot_lines.proofs.Lines.{line-short}
 use Rattle.slot_lines.proofs.put_slot_line.Statement.{statement}
@@ -29,24 +29,24 @@ algorithm c = c.before.before.before.before.before.before.before
 abbrev usage : tie.After-put-codes → tie.After-put-word-item2
 usage c = c.before.before.before.before
 
-short : (c : tie.After-struct-known) → length (slotLine c.before.before.args.number c.before.before.args.f) ≤ longestLine
+short : (c : tie.After-struct-known) → length (slot_line c.before.before.args.number c.before.before.args.f) ≤ longest_line
 short c = let pre = c.before.before.requires in line-short _ c.before.before.args.f pre.1 (search rules) pre.2
 
-whole : (c : tie.After-struct-known) → Room c.before.before.args.buffer.now c.before.before.args.at (slotLine c.before.before.args.number c.before.before.args.f)
+whole : (c : tie.After-struct-known) → Room c.before.before.args.buffer.now c.before.before.args.at (slot_line c.before.before.args.number c.before.before.args.f)
 whole c = record { fits = omega (arith, short c) }
 
 put-item-requires : tie.Need-put-item-requires
-unfolding slotLine
+unfolding slot_line
 put-item-requires c κs = next-room _ (whole c.before.before) left-all
 
 put-item-requires-2 : tie.Need-put-item-requires-2
-unfolding slotLine
+unfolding slot_line
 put-item-requires-2 c κs =
     let i1 = c.before.before.before.before in
     next-room _ (whole (start i1)) (left-next left-all i1.put_item.ensures)
 
 put-word-item-requires : tie.Need-put-word-item-requires
-unfolding slotLine
+unfolding slot_line
 put-word-item-requires c κs =
     let i2 = c.before.before.before.before.before.before in
     let i1 = number i2 in
@@ -54,7 +54,7 @@ put-word-item-requires c κs =
     (next-room _ (whole (start i1)) (left-next (left-next left-all i1.put_item.ensures) i2.put-item2.ensures))
 
 put-word-item-requires-2 : tie.Need-put-word-item-requires-2
-unfolding slotLine
+unfolding slot_line
 put-word-item-requires-2 c κs =
     let i3 = c.before.before.before.before.before.before in
     let i2 = version i3 in
@@ -64,7 +64,7 @@ put-word-item-requires-2 c κs =
     (next-room _ (whole (start i1)) (left-next (left-next (left-next left-all i1.put_item.ensures) i2.put-item2.ensures) p3))
 
 put-codes-requires : tie.Need-put-codes-requires
-unfolding slotLine
+unfolding slot_line
 put-codes-requires c κs =
     let i4 = c.before.before.before in
     let i3 = algorithm i4 in
@@ -75,7 +75,7 @@ put-codes-requires c κs =
     left-room (whole (start i1)) (left-next (left-next (left-next (left-next left-all i1.put_item.ensures) i2.put-item2.ensures) p3) p4)
 
 returns : tie.Need-returns
-unfolding slotLine
+unfolding slot_line
 returns c =
     let i5 = c.before.before in
     let i4 = usage i5 in

@@ -4,7 +4,7 @@ use native.Mathlib.Omega.{arith}
 use borrow.Author.Rules.{rules}
 use lib.ListN.{drop}
 use Rattle.writing.proofs.Puts.{put-length}
-use Rattle.slot_lines.specs.Lines.{slotLines, longestLine}
+use Rattle.slot_lines.specs.Lines.{slot_lines, longest_line}
 use Rattle.writing.proofs.Left.{Left, left-all, left_as, left-next, left-none}
 use Rattle.slot_lines.proofs.Lines.{lines_next, lines_none}
 use Rattle.slot_lines.proofs.put_slots.Statement.{statement}
@@ -12,7 +12,7 @@ use Rattle.slot_lines.proofs.put_slots.Tie as tie
 
 abbrev invariant-loop : tie.invariant-loop
 invariant-loop buffer₀ at table end₀ i₀ buffer end i =
-    (i ≤ 32) × (end ≤ at + i * longestLine) × Left buffer₀ at (slotLines 1 table) buffer end (slotLines (i + 1) (drop i table))
+    (i ≤ 32) × (end ≤ at + i * longest_line) × Left buffer₀ at (slot_lines 1 table) buffer end (slot_lines (i + 1) (drop i table))
 
 abbrev decreases-loop : tie.decreases-loop
 decreases-loop buffer₀ at table end₀ i₀ buffer end i = 32 - i

@@ -7,7 +7,7 @@ use Rattle.walks.proofs.Walk.{◌≡◌, refl, ℕ, ◌<◌, ◌^◌, List, [], 
 use denote.Triple.Walked.{stay_none, Goes-none}
 use Rattle.fields.specs.declared.Fields.{Fields}
 use Rattle.slots.specs.declared.Slot.{Slot}
-use Rattle.slot_list.specs.List.{slotIn, fieldsIn}
+use Rattle.slot_list.specs.List.{slot_in, fields_in}
 use Rattle.walks.proofs.CallRules.{plain, Of, calls-fn}
 use Rattle.slot_list.proofs.SlotLaws.{R, makes, typed, FieldsRow, fields-makes, fields-typed}
 use Rattle.slot_list.proofs.SlotCalls.{SlotIn, lent, slice, takes-slot}
@@ -47,7 +47,7 @@ module _ {M : Type 1} {𝓤 : Ura M} (𝓛 : Logic 𝓤) (mem : Memory → SProp
   abbrev Has : List (Item 𝓤)
   Has = (‵ (flft κ q) ⊛ ‵ ftrue) ∷ ‵ (owns (ShrSlice (named 0) κ R ∷ u64 ∷ []) x at) ∷ []
 
-  exits : (z : Fields) (w : Val) → Is FieldsRow z (w ∷ []) → z ≡ fieldsIn ys n → ent 𝓤 (⋆ 𝓛 Has) (Post w)
+  exits : (z : Fields) (w : Val) → Is FieldsRow z (w ∷ []) → z ≡ fields_in ys n → ent 𝓤 (⋆ 𝓛 Has) (Post w)
   exits z w is e =
       qed 𝓛 Has ∵ suffices ! _ (ends_at 𝓛 f.ended stayed (f.clauses 𝓛 mem run) (((κ, tt), (q, tt), tt, x, at), tt) w z (tt, (tt, tt)) (tt, (tt, tt))) $ says ! e $
       frame ! $ frame ! $ owned ! FieldsRow (Is FieldsRow) (fields-makes 𝓛) z (w ∷ []) is $ done !
@@ -60,10 +60,10 @@ module _ {M : Type 1} {𝓤 : Ura M} (𝓛 : Logic 𝓤) (mem : Memory → SProp
       move ! (9 ∷ []) $ fsplit ! $ move ! (10 ∷ []) $ split ! $ move ! (2 ∷ 0 ∷ []) $
       -- [what t owns; the token; true; what number owns; _3; …; _0; …]
       takes-slot ! mem run b o ys κ q γ n n-fits fm take-met (and_then ! (load ! (from ! (stop !)) (look ! 8 refl)) (and_then ! (load ! (from ! (stop !)) (look ! 6 refl)) (no_more !))) (λ w w-is.
-      land ! (from ! (stop !)) (init ! 4 refl (typed 𝓛 (slotIn ys n) w w-is)) $
-      let to-shows : (Shows 𝓛 mem run).Ghost = ((tt, tt, tt, (slotIn ys n, tt), (w ∷ [], tt)), tt) in
+      land ! (from ! (stop !)) (init ! 4 refl (typed 𝓛 (slot_in ys n) w w-is)) $
+      let to-shows : (Shows 𝓛 mem run).Ghost = ((tt, tt, tt, (slot_in ys n, tt), (w ∷ [], tt)), tt) in
       use0 𝓛 (raw ((Shows 𝓛 mem run).pre to-shows)) (plain 𝓛 (R ∷ []) (makes 𝓛, tt) to-shows.0.3 to-shows.0.4 (w-is, tt) (id⊢ 𝓤 (emp 𝓤))) $
-      calls-fn ! fm fields-of.ended (fields-of.clauses 𝓛 mem run) shows-met to-shows (λ r ws. r ≡ fieldsIn ys n) (λ r ws. id⊢ 𝓤 _)
+      calls-fn ! fm fields-of.ended (fields-of.clauses 𝓛 mem run) shows-met to-shows (λ r ws. r ≡ fields_in ys n) (λ r ws. id⊢ 𝓤 _)
       (and_then ! (load ! (from ! (stop !)) (look ! 5 refl)) (no_more !)) (λ v r ws e is. drop ! $ drop ! $
       land ! (from ! (stop !)) (init ! 10 refl (fields-typed 𝓛 r v is)) $
       returns ! (look ! 10 refl) $ forget ! 4 refl $ forget ! 6 refl $ forget ! 8 refl $ forget ! 10 refl $

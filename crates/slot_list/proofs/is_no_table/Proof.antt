@@ -12,8 +12,8 @@ use mir.Syntax.{Body, place, copy, int, op2, add, unsigned, assign}
 use denote.Builtin.{bool}
 use denote.Plain.{bool_Makes, bool_Lawful}
 use Rattle.slots.specs.declared.Slot.{Slot}
-use Rattle.slots.specs.Slots.{nil, is_empty, isFilled, isBad, hasBad}
-use Rattle.slot_list.specs.List.{isTable, isNoTable}
+use Rattle.slots.specs.Slots.{nil, is_empty, is_filled, is_bad, has_bad}
+use Rattle.slot_list.specs.List.{is_table, is_no_table}
 use Rattle.walks.proofs.CallRules.{plain, Of, calls-fn}
 use Rattle.slot_list.proofs.SlotLaws.{R, slot_ty, vals, tells, makes, copies, typed}
 use Rattle.slot_list.proofs.BadTurns.{Turn, less, less_wf, begin, onward, all_tested, unfilled-bad, filled-kept, asked-yes, asked-no}
@@ -61,7 +61,7 @@ module _ {M : Type 1} {𝓤 : Ura M} (𝓛 : Logic 𝓤) (mem : Memory → SProp
   abbrev Has : List (Item 𝓤)
   Has = (‵ (flft κ q) ⊛ ‵ ftrue) ∷ ‵ (owns (ShrSlice (named 0) κ R ∷ []) x at) ∷ []
 
-  exits : (r : Bool) → r ≡ isNoTable ys → ent 𝓤 (⋆ 𝓛 Has) (Post (vbool r))
+  exits : (r : Bool) → r ≡ is_no_table ys → ent 𝓤 (⋆ 𝓛 Has) (Post (vbool r))
   exits r e =
       qed 𝓛 Has ∵
       suffices ! _ (ends_at 𝓛 f.ended stayed (f.clauses 𝓛 mem run) (((κ, tt), (q, tt), tt, x, at), tt) (vbool r) r (tt, tt) (tt, tt)) $ says ! e $
@@ -92,19 +92,19 @@ module _ {M : Type 1} {𝓤 : Ura M} (𝓛 : Logic 𝓤) (mem : Memory → SProp
       abbrev Γ : Bool → Item 𝓤 → List (Item 𝓤)
       Γ d i = ‵ (froom slot_ty l₁₄ 0) ∷ ‵ (fdies slot_ty l₁₄) ∷ ‵ (froom ty_ptr l₁₃ 0) ∷ ‵ (fdies ty_ptr l₁₃) ∷ ‵ (froom (ty_int w64) l₁₂ 0) ∷ ‵ (fdies (ty_int w64) l₁₂) ∷ ‵ (froom slot_ty l₁₁ 0) ∷ ‵ (fdies slot_ty l₁₁)
           ∷ ‵ (froom ty_ptr l₁₀ 0) ∷ ‵ (fdies ty_ptr l₁₀) ∷ ‵ (froom (ty_int w64) l₉ 0) ∷ ‵ (fdies (ty_int w64) l₉) ∷ ‵ (froom ty_bool l₈ 0) ∷ ‵ (fdies ty_bool l₈) ∷ ‵ (froom ty_bool l₇ 0) ∷ ‵ (fdies ty_bool l₇)
-          ∷ ‵ (fat full_share ty_bool l₆ 0 (vbool (isTable ys))) ∷ ‵ (fdies ty_bool l₆) ∷ ‵ (froom (ty_int w64) l₅ 0) ∷ ‵ (fdies (ty_int w64) l₅) ∷ ‵ (froom ty_bool l₄ 0) ∷ ‵ (fdies ty_bool l₄) ∷ i ∷ ‵ (fdies (ty_int w64) l₃)
+          ∷ ‵ (fat full_share ty_bool l₆ 0 (vbool (is_table ys))) ∷ ‵ (fdies ty_bool l₆) ∷ ‵ (froom (ty_int w64) l₅ 0) ∷ ‵ (fdies (ty_int w64) l₅) ∷ ‵ (froom ty_bool l₄ 0) ∷ ‵ (fdies ty_bool l₄) ∷ i ∷ ‵ (fdies (ty_int w64) l₃)
           ∷ ‵ (fat full_share ty_bool l₂ 0 (vbool d)) ∷ ‵ (fdies ty_bool l₂) ∷ ‵ (fat full_share ref l₁ 0 s) ∷ ‵ (fdies ref l₁) ∷ ‵ (froom ty_bool l₀ 0) ∷ ‵ (fdies ty_bool l₀)
           ∷ Has
 
       -- _2 is returned
-      answers : (d : Bool) → d ≡ isNoTable ys → Sq 𝓛 (Γ d (‵ (froom (ty_int w64) l₃ 0))) (runs C Λ E body.t-5 (at_ret E Post))
+      answers : (d : Bool) → d ≡ is_no_table ys → Sq 𝓛 (Γ d (‵ (froom (ty_int w64) l₃ 0))) (runs C Λ E body.t-5 (at_ret E Post))
       answers d e =
           assigns ! (of_opd ! (load ! (from ! (stop !)) (look ! 24 refl))) (from ! (stop !)) (init ! 28 refl (tt, tt)) $
           returns ! (look ! 28 refl) $ forget ! 16 refl $ forget ! 24 refl $ forget ! 26 refl $ forget ! 28 refl $
           move ! (28 ∷ 29 ∷ []) $ free1 ! $ move ! (26 ∷ 27 ∷ []) $ free1 ! $ move ! (24 ∷ 25 ∷ []) $ free1 ! $ move ! (22 ∷ 23 ∷ []) $ free1 ! $ move ! (20 ∷ 21 ∷ []) $ free1 ! $ move ! (18 ∷ 19 ∷ []) $ free1 ! $ move ! (16 ∷ 17 ∷ []) $ free1 ! $ move ! (14 ∷ 15 ∷ []) $ free1 ! $ move ! (12 ∷ 13 ∷ []) $ free1 ! $ move ! (10 ∷ 11 ∷ []) $ free1 ! $ move ! (8 ∷ 9 ∷ []) $ free1 ! $ move ! (6 ∷ 7 ∷ []) $ free1 ! $ move ! (4 ∷ 5 ∷ []) $ free1 ! $ move ! (2 ∷ 3 ∷ []) $ free1 ! $ free1 ! $ free0 ! $
           by ! (exits d e)
 
-      module _ (is-table : Holds (isTable ys)) where
+      module _ (is-table : Holds (is_table ys)) where
         full : length ys ≡ 32
         full = eqb→eq (length ys) 32 is-table
 
@@ -126,7 +126,7 @@ module _ {M : Type 1} {𝓤 : Ura M} (𝓛 : Logic 𝓤) (mem : Memory → SProp
             assigns ! (bin ! (load ! (from ! (stop !)) (look ! 22 refl)) (lit ! tt) tt) (from ! (stop !)) (init ! 14 refl (tt, tt)) $
             rewrite ! 14 (λ (y : Bool). ‵ (fat full_share ty_bool l₇ 0 (vbool y))) (le-ltb t.i 32 (omega (arith, e))) refl $
             leaves_loop ! (load ! (from ! (stop !)) (look ! 14 refl)) $ exec ! C Λ E body.t-5 (at_ret E Post) $ forget ! 14 refl $ forget ! 22 refl $
-            answers t.bad (asked-yes (isTable ys) t.bad (hasBad ys) is-table (all_tested t e full))
+            answers t.bad (asked-yes (is_table ys) t.bad (has_bad ys) is-table (all_tested t e full))
 
         module _ (t : Turn ys) (h : t.i < 32) where
           abbrev y : Slot
@@ -136,7 +136,7 @@ module _ {M : Type 1} {𝓤 : Ura M} (𝓛 : Logic 𝓤) (mem : Memory → SProp
           within = omega (arith, h, full)
 
           -- the slot is tested, and the next turn begins
-          counts : (d : Bool) → d ≡ (t.bad || isBad y) → Sq 𝓛 (Γ d (‵ (fat full_share (ty_int w64) l₃ 0 (vint w64 t.i)))) (runs C Λ E counting (Then t))
+          counts : (d : Bool) → d ≡ (t.bad || is_bad y) → Sq 𝓛 (Γ d (‵ (fat full_share (ty_int w64) l₃ 0 (vint w64 t.i)))) (runs C Λ E counting (Then t))
           unfolding after_turn
           counts d e =
               rewrite ! 24 (λ (z : Bool). ‵ (fat full_share ty_bool l₂ 0 (vbool z))) e refl $
@@ -160,7 +160,7 @@ module _ {M : Type 1} {𝓤 : Ura M} (𝓛 : Logic 𝓤) (mem : Memory → SProp
               -- [the token; the fractured borrow; true; res; t's fact; true; _14; …; _0; …]
               let to-unfilled : Unfilled.Ghost = ((tt, tt, tt, (y, tt), (vals y, tt)), tt) in
               use0 𝓛 (raw (Unfilled.pre to-unfilled)) (plain 𝓛 (R ∷ []) (makes 𝓛, tt) to-unfilled.0.3 to-unfilled.0.4 (g, tt) (id⊢ 𝓤 (emp 𝓤))) $
-              calls-fn ! fm is-unfilled.ended (is-unfilled.clauses 𝓛 mem run) unfilled-met to-unfilled (λ r ws. r ≡ not (isFilled y)) (λ r ws. id⊢ 𝓤 _)
+              calls-fn ! fm is-unfilled.ended (is-unfilled.clauses 𝓛 mem run) unfilled-met to-unfilled (λ r ws. r ≡ not (is_filled y)) (λ r ws. id⊢ 𝓤 _)
               (and_then ! (load ! (from ! (stop !)) (look ! 13 refl)) (no_more !)) (λ v r ws e is. drop ! $ drop ! $
               land ! (from ! (stop !)) (init ! 18 refl ((bool_Lawful 𝓛).typed r _ is).0) $
               rewrite ! 18 (λ (z : Val). ‵ (fat full_share ty_bool l₈ 0 z)) (same-value v (vbool r) is ∙ ap vbool e) refl $
@@ -200,7 +200,7 @@ module _ {M : Type 1} {𝓤 : Ura M} (𝓛 : Logic 𝓤) (mem : Memory → SProp
           (λ h. assigns ! (of_opd ! (false_lit !)) (from ! (stop !)) (store ! 24 refl (tt, tt)) $
           assigns ! (of_opd ! (lit ! tt)) (from ! (stop !)) (init ! 22 refl (tt, record { fits = lit< tt })) $
           blocks ! $ loops ! 𝓣 (less ys) (less_wf ys) (I h) (turns h) (begin ys))
-          (λ h. skips ! $ exec ! C Λ E body.t-5 (at_ret E Post) $ answers true (asked-no (isTable ys) (hasBad ys) h))
+          (λ h. skips ! $ exec ! C Λ E body.t-5 (at_ret E Post) $ answers true (asked-no (is_table ys) (has_bad ys) h))
 
     walk : ent 𝓤 (on_entry 𝓛 f.signature (κ, tt) (q, tt) x at) (WpFn 𝓤 H C Λ code.function (s ∷ []) Post)
     walk =

@@ -3,7 +3,7 @@ use mathlib.Core.Bool.{true}
 use mathlib.Core.Path.{◌≡◌, sym, ◌∙◌}
 use borrow.Author.Rules.{rules}
 use borrow.Author.Tests.{eq-eqb, ne_eqb, not-true, not-false}
-use Rattle.fields.specs.Fields.{isSlotNumber}
+use Rattle.fields.specs.Fields.{is_slot_number}
 use Rattle.fields.proofs.Ranges.{between-low}
 use Rattle.slot_list.proofs.place_of.Statement.{statement}
 use Rattle.slot_list.proofs.place_of.Tie as tie
@@ -16,7 +16,7 @@ returns-2 c =
     let n = c.before in
     rw (eq-eqb _ 32 n.before.if1.false, sym n.is-slot-number.ensures ∙ not-true _ c.if2.true)
 
-numbered : (c : tie.Else2) → isSlotNumber c.before.before.before.args.number ≡ true
+numbered : (c : tie.Else2) → is_slot_number c.before.before.before.args.number ≡ true
 numbered c = sym c.before.is-slot-number.ensures ∙ not-false _ c.if2.false
 
 returns-3 : tie.Need-returns-3

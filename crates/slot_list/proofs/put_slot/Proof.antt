@@ -9,9 +9,9 @@ use Rattle.laws.proofs.Cases.{pick_yes, pick_no}
 use Rattle.slots.specs.declared.Slot.{Slot}
 use Rattle.slot_calls.specs.declared.Put.{Put}
 use Rattle.slots.specs.Slots.{nil}
-use Rattle.slot_list.specs.List.{placeTo, put_in}
+use Rattle.slot_list.specs.List.{place_to, put_in}
 use Rattle.walks.proofs.CallRules.{plain, Of, calls-fn}
-use Rattle.slot_list.proofs.SlotLaws.{R, slot_ty, vals, tells, makes, typed, Res, resTy, res-vals, res-tells, res-makes, res_typed}
+use Rattle.slot_list.proofs.SlotLaws.{R, slot_ty, vals, tells, makes, typed, Res, res_ty, res-vals, res-tells, res-makes, res_typed}
 use Rattle.walks.proofs.Heads.{same-value}
 use Rattle.slot_list.specs.contracts.place_to as place-to
 use Rattle.slot_list.proofs.place_to.Symbol as place-to-def
@@ -51,7 +51,7 @@ module _ {M : Type 1} {𝓤 : Ura M} (𝓛 : Logic 𝓤) (mem : Memory → SProp
 
   -- the place of the slot
   abbrev i : ℕ
-  i = placeTo (length ys) n c
+  i = place_to (length ys) n c
 
   abbrev Post : Val → SProp 𝓤
   Post = (walk_of 𝓛 f.ended stayed (f.clauses 𝓛 mem run)).post (((κ, tt), (q, tt), tt, x, at), tt)
@@ -81,13 +81,13 @@ module _ {M : Type 1} {𝓤 : Ura M} (𝓛 : Logic 𝓤) (mem : Memory → SProp
   module _ (C : Calls 𝓤 H) (Λ : Loops 𝓤 H) (fm : FmC 𝓤 H 𝓛.laws C) (place-met : Triple 𝓤 (C #place-to) PlaceTo) (slot-met : Triple 𝓤 (C #slot-of) SlotOf) (refusal-met : Triple 𝓤 (C #refusal-of) RefusalOf) where
     module _ (l₀ l₁ l₂ l₃ l₄ l₅ l₆ l₇ l₈ l₉ : ℕ) where
       abbrev E : Env 𝓤 H
-      E = (ty_int w8, l₀) ∷ (ref, l₁) ∷ (ty_int w64, l₂) ∷ (resTy, l₃) ∷ (ty_int w64, l₄) ∷ (ty_int w64, l₅) ∷ (ty_bool, l₆) ∷ (slot_ty, l₇) ∷ (ty_int w64, l₈) ∷ (ty_ptr, l₉) ∷ []
+      E = (ty_int w8, l₀) ∷ (ref, l₁) ∷ (ty_int w64, l₂) ∷ (res_ty, l₃) ∷ (ty_int w64, l₄) ∷ (ty_int w64, l₅) ∷ (ty_bool, l₆) ∷ (slot_ty, l₇) ∷ (ty_int w64, l₈) ∷ (ty_ptr, l₉) ∷ []
 
       -- the context around the test: the locals, the last first; then what is had of t
       abbrev Γ : List Slot → List (Item 𝓤)
       Γ zs = ‵ (froom ty_ptr l₉ 0) ∷ ‵ (fdies ty_ptr l₉) ∷ ‵ (froom (ty_int w64) l₈ 0) ∷ ‵ (fdies (ty_int w64) l₈) ∷ ‵ (froom slot_ty l₇ 0) ∷ ‵ (fdies slot_ty l₇)
           ∷ ‵ (fat full_share ty_bool l₆ 0 (vbool (ltb i (length ys)))) ∷ ‵ (fdies ty_bool l₆) ∷ ‵ (fat full_share (ty_int w64) l₅ 0 (vint w64 (length ys))) ∷ ‵ (fdies (ty_int w64) l₅)
-          ∷ ‵ (fat full_share (ty_int w64) l₄ 0 (vint w64 i)) ∷ ‵ (fdies (ty_int w64) l₄) ∷ ‵ (fat full_share resTy l₃ 0 w) ∷ ‵ (fdies resTy l₃)
+          ∷ ‵ (fat full_share (ty_int w64) l₄ 0 (vint w64 i)) ∷ ‵ (fdies (ty_int w64) l₄) ∷ ‵ (fat full_share res_ty l₃ 0 w) ∷ ‵ (fdies res_ty l₃)
           ∷ ‵ (fat full_share (ty_int w64) l₂ 0 (vint w64 n)) ∷ ‵ (fdies (ty_int w64) l₂) ∷ ‵ (fat full_share ref l₁ 0 s) ∷ ‵ (fdies ref l₁) ∷ ‵ (froom (ty_int w8) l₀ 0) ∷ ‵ (fdies (ty_int w8) l₀) ∷ Has zs
 
       -- the refusal is returned

@@ -9,7 +9,7 @@ use denote.Triple.Walked.{stay_none, Goes-none}
 use Rattle.laws.proofs.Cases.{pick_yes, pick_no}
 use Rattle.slots.specs.declared.Slot.{Slot}
 use Rattle.slots.specs.Slots.{nil, empty}
-use Rattle.slot_list.specs.List.{placeOf, slotIn}
+use Rattle.slot_list.specs.List.{place_of, slot_in}
 use Rattle.walks.proofs.CallRules.{plain, Of, calls-fn}
 use Rattle.slot_list.proofs.SlotLaws.{R, slot_ty, vals, tells, makes, copies, typed}
 use Rattle.walks.proofs.Heads.{same-value}
@@ -47,7 +47,7 @@ module _ {M : Type 1} {𝓤 : Ura M} (𝓛 : Logic 𝓤) (mem : Memory → SProp
 
   -- the place of the slot
   abbrev i : ℕ
-  i = placeOf (length ys) n
+  i = place_of (length ys) n
 
   abbrev Post : Val → SProp 𝓤
   Post = (walk_of 𝓛 f.ended stayed (f.clauses 𝓛 mem run)).post (((κ, tt), (q, tt), tt, x, at), tt)
@@ -56,7 +56,7 @@ module _ {M : Type 1} {𝓤 : Ura M} (𝓛 : Logic 𝓤) (mem : Memory → SProp
   abbrev Has : List (Item 𝓤)
   Has = (‵ (flft κ q) ⊛ ‵ ftrue) ∷ ‵ (owns (ShrSlice (named 0) κ R ∷ u64 ∷ []) x at) ∷ []
 
-  exits : (z : Slot) (w : Val) → Is R z (w ∷ []) → z ≡ slotIn ys n → ent 𝓤 (⋆ 𝓛 Has) (Post w)
+  exits : (z : Slot) (w : Val) → Is R z (w ∷ []) → z ≡ slot_in ys n → ent 𝓤 (⋆ 𝓛 Has) (Post w)
   exits z w is e =
       qed 𝓛 Has ∵
       suffices ! _ (ends_at 𝓛 f.ended stayed (f.clauses 𝓛 mem run) (((κ, tt), (q, tt), tt, x, at), tt) w z (tt, (tt, tt)) (tt, (tt, tt))) $ says ! e $
@@ -82,7 +82,7 @@ module _ {M : Type 1} {𝓤 : Ura M} (𝓛 : Logic 𝓤) (mem : Memory → SProp
           ∷ ‵ (fat full_share (ty_int w64) l₂ 0 (vint w64 n)) ∷ ‵ (fdies (ty_int w64) l₂) ∷ ‵ (fat full_share ref l₁ 0 s) ∷ ‵ (fdies ref l₁) ∷ ‵ (froom slot_ty l₀ 0) ∷ ‵ (fdies slot_ty l₀) ∷ Has
 
       -- _3 is returned
-      answers : (z : Slot) (w : Val) → Is R z (w ∷ []) → z ≡ slotIn ys n → Sq 𝓛 (Γ w) (runs C Λ E body.t-7 (at_ret E Post))
+      answers : (z : Slot) (w : Val) → Is R z (w ∷ []) → z ≡ slot_in ys n → Sq 𝓛 (Γ w) (runs C Λ E body.t-7 (at_ret E Post))
       answers z w is e =
           assigns ! (of_opd ! (load ! (from ! (stop !)) (look ! 12 refl))) (from ! (stop !)) (init ! 18 refl (typed 𝓛 z w is)) $
           returns ! (look ! 18 refl) $ forget ! 6 refl $ forget ! 8 refl $ forget ! 10 refl $ forget ! 12 refl $ forget ! 14 refl $ forget ! 16 refl $ forget ! 18 refl $

@@ -2,17 +2,17 @@
 use native.Mathlib.Omega.{arith}
 use borrow.Author.Rules.{rules}
 use Rattle.laws.proofs.Cases.{and_left}
-use Rattle.fields.specs.Fields.{isUse}
+use Rattle.fields.specs.Fields.{is_use}
 use Rattle.fields.proofs.Ranges.{between-high}
-use Rattle.rights.specs.Rights.{movedUse}
+use Rattle.rights.specs.Rights.{moved_use}
 use Rattle.slot_puts.proofs.moved_slot.Statement.{statement}
 use Rattle.slot_puts.proofs.moved_slot.Tie as tie
 
 cast-fields : tie.Need-overflow-cast-fields
 cast-fields c =
     let s = c.before.before.before in
-    let u = movedUse s.args.slot.fields.usage s.args.asked in
-    omega (arith, c.moved-use.ensures, between-high 1 u 3 (and_left (isUse u) _ s.requires))
+    let u = moved_use s.args.slot.fields.usage s.args.asked in
+    omega (arith, c.moved-use.ensures, between-high 1 u 3 (and_left (is_use u) _ s.requires))
 
 returns : tie.Need-returns
 returns c = rw c.moved-use.ensures

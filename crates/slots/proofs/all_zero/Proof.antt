@@ -5,13 +5,13 @@ use Prim.Native.Nat.{◌≤◌, ◌-◌}
 use borrow.Author.Rules.{rules}
 use lib.Dec.{eqb}
 use lib.ListN.{drop}
-use Rattle.slots.specs.Slots.{allZero}
+use Rattle.slots.specs.Slots.{all_zero}
 use Rattle.slots.proofs.Zeros.{zeros-more, zeros-all}
 use Rattle.slots.proofs.all_zero.Statement.{statement}
 use Rattle.slots.proofs.all_zero.Tie as tie
 
 abbrev invariant-loop : tie.invariant-loop
-invariant-loop key joined₀ i₀ joined i = (i ≤ 24) × (eqb joined 0 && allZero (drop i key) ≡ allZero key)
+invariant-loop key joined₀ i₀ joined i = (i ≤ 24) × (eqb joined 0 && all_zero (drop i key) ≡ all_zero key)
 
 abbrev decreases-loop : tie.decreases-loop
 decreases-loop key joined₀ i₀ joined i = 24 - i

@@ -3,13 +3,13 @@ use mathlib.Core.Path.{◌≡◌, sym, ◌∙◌}
 use Prim.Native.Nat.{◌≤◌, ◌-◌}
 use borrow.Author.Rules.{rules}
 use lib.ListN.{drop}
-use Rattle.slots.specs.Slots.{hasBad}
+use Rattle.slots.specs.Slots.{has_bad}
 use Rattle.slots.proofs.Tables.{bad-next, bad-none}
 use Rattle.slots.proofs.table_is_bad.Statement.{statement}
 use Rattle.slots.proofs.table_is_bad.Tie as tie
 
 abbrev invariant-loop : tie.invariant-loop
-invariant-loop table i₀ i = (i ≤ 32) × (hasBad table ≡ hasBad (drop i table))
+invariant-loop table i₀ i = (i ≤ 32) × (has_bad table ≡ has_bad (drop i table))
 
 abbrev decreases-loop : tie.decreases-loop
 decreases-loop table i₀ i = 32 - i

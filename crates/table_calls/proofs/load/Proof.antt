@@ -3,7 +3,7 @@ use mathlib.Core.Path.{◌≡◌, sym, ap, ◌∙◌}
 use borrow.Author.Rules.{rules}
 use Rattle.slot_calls.specs.declared.Put.{Put}
 use Rattle.slots.specs.Slots.{keyless}
-use Rattle.slot_calls.specs.Seen.{loadPut, changedBy}
+use Rattle.slot_calls.specs.Seen.{load_put, changed_by}
 use Rattle.slot_calls.proofs.AsSeen.{slot-there}
 use Rattle.slot_calls.proofs.Puts.{load-put}
 use Rattle.slot_calls.proofs.Passed.{load-passed-of}
@@ -16,8 +16,8 @@ returns c =
     let slot = put.before in
     let a = slot.before.before.args in
     c.put-to.ensures
-    ∙ ap (changedBy a.table a.number)
-    (put.load_of.ensures ∙ (λ i. loadPut (slot.before.table-is-bad.ensures i) (keyless (slot.fields-or-none.ensures i)) a.number a.asked a.key))
+    ∙ ap (changed_by a.table a.number)
+    (put.load_of.ensures ∙ (λ i. load_put (slot.before.table-is-bad.ensures i) (keyless (slot.fields-or-none.ensures i)) a.number a.asked a.key))
     ∙ load-put _ a.table a.number _ (slot-there a.table a.number) a.asked a.key
 
 pub load_spec : {M : Type 1} → statement M

@@ -1,11 +1,11 @@
 -- `traffic::traffic_refusal`: the slot's refusals, and then the span's. Assumes nothing.
 use borrow.Author.Rules.{rules}
-use Rattle.traffic.specs.Traffic.{trafficRefusalOf}
+use Rattle.traffic.specs.Traffic.{traffic_refusal_of}
 use Rattle.traffic.proofs.traffic_refusal.Statement.{statement}
 use Rattle.traffic.proofs.traffic_refusal.Tie as tie
 
 returns : tie.Need-returns
-unfolding trafficRefusalOf
+unfolding traffic_refusal_of
 returns c =
     let span = c.before in
     rw (c.refuse.ensures, span.span-refusal.ensures, span.before.use-refusal.ensures)

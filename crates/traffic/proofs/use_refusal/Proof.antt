@@ -1,11 +1,11 @@
 -- `traffic::use_refusal`: each test is the definition's, and so is their order. Assumes nothing.
 use borrow.Author.Rules.{rules}
-use Rattle.traffic.specs.Traffic.{useRefusalOf}
+use Rattle.traffic.specs.Traffic.{use_refusal_of}
 use Rattle.traffic.proofs.use_refusal.Statement.{statement}
 use Rattle.traffic.proofs.use_refusal.Tie as tie
 
 returns : tie.Need-returns
-unfolding useRefusalOf
+unfolding use_refusal_of
 returns c =
     let five = c.before.before in
     let three = five.before.before in

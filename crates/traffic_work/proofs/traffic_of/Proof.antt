@@ -5,10 +5,10 @@ use borrow.Author.Rules.{rules}
 use borrow.Author.Tests.{ne_eqb}
 use lib.ListN.{length}
 use Rattle.span.specs.Span.{xored}
-use Rattle.block_counts.specs.Counts.{blocksUsed}
+use Rattle.block_counts.specs.Counts.{blocks_used}
 use Rattle.block_counts.proofs.Blocks.{used_pos}
 use Rattle.keystream.specs.Stream.{keystream}
-use Rattle.ciphering.specs.Span.{cipheredAs}
+use Rattle.ciphering.specs.Span.{ciphered_as}
 use Rattle.ciphering.proofs.Passed.{SpanPassed, span-passed}
 use Rattle.traffic_work.proofs.traffic_of.Statement.{statement}
 use Rattle.traffic_work.proofs.traffic_of.Tie as tie
@@ -37,8 +37,8 @@ returns-2 c =
     let made = ran.cipher-from.ensures in
     let some = used_pos a.skip a.n (passed e).some in (
       rw e.if1.false
-          (λ i. cipheredAs 0 ((made.0 ∙ (λ j. xored a.buf.now (keystream a.slot.fields.algorithm a.slot.key (iv.iv-of.ensures j)) a.start a.skip a.n)) i) (made.2 i)),
-      made.1 ∙ rw (made.2, ne_eqb (blocksUsed a.skip a.n) 0 (λ z. omega (arith, some))),
+          (λ i. ciphered_as 0 ((made.0 ∙ (λ j. xored a.buf.now (keystream a.slot.fields.algorithm a.slot.key (iv.iv-of.ensures j)) a.start a.skip a.n)) i) (made.2 i)),
+      made.1 ∙ rw (made.2, ne_eqb (blocks_used a.skip a.n) 0 (λ z. omega (arith, some))),
     )
 
 pub traffic-of-spec : {M : Type 1} → statement M

@@ -5,7 +5,7 @@ use native.Mathlib.Omega.{arith}
 use lib.ListN.{length}
 use lib.Seq.{length-take-le}
 use borrow.Author.Rules.{rules}
-use Rattle.cases.specs.Answer.{answerRoom}
+use Rattle.cases.specs.Answer.{answer_room}
 use Rattle.lines.proofs.Pieces.{step-within, step-some}
 use Rattle.cases.proofs.Texts.{answered}
 use Rattle.vectors.proofs.answer_all.Statement.{statement}
@@ -17,7 +17,7 @@ invariant-loop input out₀ at₀ out at = (at ≤ length input) × (length out 
 abbrev decreases-loop : tie.decreases-loop
 decreases-loop input out₀ at₀ out at = length input - at
 
-large : (c : tie.At-loop invariant-loop decreases-loop) → answerRoom ≤ length c.loop.out
+large : (c : tie.At-loop invariant-loop decreases-loop) → answer_room ≤ length c.loop.out
 large c = omega (arith, c.loop.invariant.1, c.before.before.before.requires)
 
 -- a line takes some bytes, and lies within the input

@@ -3,7 +3,7 @@ use mathlib.Core.Path.{◌≡◌, refl, ◌∙◌}
 use borrow.Author.Rules.{rules}
 use borrow.Author.Tests.{ne_eqb}
 use Rattle.keystream.specs.Stream.{keystream}
-use Rattle.ciphering.specs.Span.{schedulesFor, cipheredAs}
+use Rattle.ciphering.specs.Span.{schedules_for, ciphered_as}
 use Rattle.whole.specs.Whole.{ciphered}
 use Rattle.whole_work.proofs.whole_of.Statement.{statement}
 use Rattle.whole_work.proofs.whole_of.Tie as tie
@@ -31,7 +31,7 @@ returns-2 c =
     let a = (start e).args in
     let made = ran.cipher-pieces.ensures in (
       rw e.if1.false
-          (λ i. cipheredAs 0 ((made.0 ∙ (λ j. ciphered a.buf.now (keystream a.slot.fields.algorithm a.slot.key (iv.iv-of.ensures j)) a.p)) i) (made.1 i)),
+          (λ i. ciphered_as 0 ((made.0 ∙ (λ j. ciphered a.buf.now (keystream a.slot.fields.algorithm a.slot.key (iv.iv-of.ensures j)) a.p)) i) (made.1 i)),
       made.2 ∙ rw made.1,
     )
 

@@ -3,24 +3,24 @@ use native.Mathlib.Omega.{arith}
 use native.Mathlib.Numerals.{add-one}
 use lib.ListN.{set, length-set}
 use borrow.Author.Rules.{rules}
-use Rattle.writing.specs.Text.{hexText}
+use Rattle.writing.specs.Text.{hex_text}
 use Rattle.writing.proofs.put_byte.Statement.{statement}
 use Rattle.writing.proofs.put_byte.Tie as tie
 
 slice-write-buffer : tie.Need-slice-write-buffer
-unfolding hexText
+unfolding hex_text
 slice-write-buffer c = omega arith
 
 slice-write-buffer-2 : tie.Need-slice-write-buffer-2
-unfolding hexText
+unfolding hex_text
 slice-write-buffer-2 c = simp length-set (omega arith)
 
 add-result : tie.Need-overflow-add-result
-unfolding hexText
+unfolding hex_text
 add-result c = omega arith
 
 returns : tie.Need-returns
-unfolding hexText
+unfolding hex_text
 returns c =
     let b = c.before.before.before.args.buffer.now in
     let at = c.before.before.before.args.at in

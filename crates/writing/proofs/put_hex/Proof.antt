@@ -3,20 +3,20 @@ use Prim.Native.Nat.{◌≤◌, ◌-◌}
 use native.Mathlib.Omega.{arith}
 use lib.ListN.{length, take}
 use borrow.Author.Rules.{rules}
-use Rattle.writing.specs.Text.{hexText}
+use Rattle.writing.specs.Text.{hex_text}
 use Rattle.writing.specs.Writing.{Put}
 use Rattle.writing.proofs.Puts.{put-none, put-length, hex-room, hex-next, hex-whole}
 use Rattle.writing.proofs.put_hex.Statement.{statement}
 use Rattle.writing.proofs.put_hex.Tie as tie
 
 abbrev invariant-loop : tie.invariant-loop
-invariant-loop buffer₀ at bytes end₀ i₀ buffer end i = (i ≤ length bytes) × Put buffer₀ end₀ (hexText (take i bytes)) buffer end
+invariant-loop buffer₀ at bytes end₀ i₀ buffer end i = (i ≤ length bytes) × Put buffer₀ end₀ (hex_text (take i bytes)) buffer end
 
 abbrev decreases-loop : tie.decreases-loop
 decreases-loop buffer₀ at bytes end₀ i₀ buffer end i = length bytes - i
 
 loop-holds : tie.Need-loop-init invariant-loop decreases-loop
-unfolding hexText
+unfolding hex_text
 loop-holds c = (omega arith, put-none _ _)
 
 put-byte-requires : tie.Need-put-byte-requires invariant-loop decreases-loop

@@ -6,9 +6,9 @@ use denote.Ref.{MutBor}
 use Rattle.walks.proofs.Walk.{◌≡◌, refl, ℕ, ◌<◌, ◌^◌, List, [], ◌∷◌, length, Ura, named, w8, w64, Val, vint, SProp, ent, sep, emp, via, fst∗, id⊢, Lft, GName, Share, ftrue, flft, Memory, Routine, Calls, Loops, WpFn, Tables, sem, Fun, tables, tables_of, ‵, raw, ◌⊛◌, ◌$◌, ◌∵◌, !, qed, by, move, drop, use0, split, join, fsplit, fjoin, suffices, frame, done, agg, whole, sub, look_in, look, init, forget, stop, hop, fld, from, load, addr, and_then, no_more, assigns, land, returns, enter, alloc1, alloc0, params1, pass1, pass0, free1, free0, FmC, fm_of, WpFn-mono, owns, Is, uint_Makes, uint_Lawful, uint_vals, uint_Tells, u8, u64, RefT, MutSlice, Room, finally, slice-vals, mut_slice_Tells, plainly, owned, nothing, Vals, on_entry, Meets, triple_of, Contract, Triple, entered, cited, says, Stays, gave_slice, stay_dropped, walk_of, Goes-gave_slice, Goes-dropped, ends_at, walked, walk_Meets, yes}
 use Rattle.slots.specs.declared.Slot.{Slot}
 use Rattle.slots.specs.Slots.{keyless}
-use Rattle.slot_calls.specs.Seen.{clearPut}
-use Rattle.slot_list.specs.List.{isNoTable, fieldsIn}
-use Rattle.card.specs.Table.{clearedIn}
+use Rattle.slot_calls.specs.Seen.{clear_put}
+use Rattle.slot_list.specs.List.{is_no_table, fields_in}
+use Rattle.card.specs.Table.{cleared_in}
 use Rattle.walks.proofs.CallRules.{plain, Of, calls-fn}
 use denote.Builtin.{bool}
 use denote.Plain.{bool_Makes, bool_Lawful}
@@ -53,10 +53,10 @@ module _ {M : Type 1} {𝓤 : Ura M} (𝓛 : Logic 𝓤) (mem : Memory → SProp
   abbrev Post : Val → SProp 𝓤
   Post = (walk_of 𝓛 f.ended stayed (f.clauses 𝓛 mem run)).post (((κ, tt), (q, tt), tt, x, at), tt)
 
-  exits : (r : ℕ) (w : Val) (zs : List Slot) → (r ≡ (clearedIn ys n).refusal) × (zs ≡ (clearedIn ys n).table) → length zs ≡ length ys → Is u8 r (w ∷ []) → ent 𝓤 (sep 𝓤 (A.lft κ q) (sem 𝓛 (finally R γ zs))) (Post w)
+  exits : (r : ℕ) (w : Val) (zs : List Slot) → (r ≡ (cleared_in ys n).refusal) × (zs ≡ (cleared_in ys n).table) → length zs ≡ length ys → Is u8 r (w ∷ []) → ent 𝓤 (sep 𝓤 (A.lft κ q) (sem 𝓛 (finally R γ zs))) (Post w)
   exits r w zs e l is =
       qed 𝓛 (‵ (flft κ q) ∷ ‵ (finally R γ zs) ∷ []) ∵
-      suffices ! _ (ends_at 𝓛 f.ended stayed (f.clauses 𝓛 mem run) (((κ, tt), (q, tt), tt, x, at), tt) w r (zs, (tt, tt)) (l, (tt, tt))) $ says ! (changed-is (clearedIn ys n) e) $
+      suffices ! _ (ends_at 𝓛 f.ended stayed (f.clauses 𝓛 mem run) (((κ, tt), (q, tt), tt, x, at), tt) w r (zs, (tt, tt)) (l, (tt, tt))) $ says ! (changed-is (cleared_in ys n) e) $
       nothing ! $ move ! (1 ∷ 0 ∷ []) $ join ! $ frame ! $ owned ! u8 (Is u8) (uint_Makes 𝓛 w8) r (w ∷ []) is $
       nothing ! $ nothing ! $ fjoin ! $ move ! (2 ∷ 0 ∷ []) $ fjoin ! $ done !
 
@@ -72,14 +72,14 @@ module _ {M : Type 1} {𝓤 : Ura M} (𝓛 : Logic 𝓤) (mem : Memory → SProp
         assigns ! (addr ! (from ! (fld ! refl (hop ! (look_in ! 22 (sub ! 0 refl (whole !))) (stop !))))) (from ! (stop !)) (init ! 14 refl (tt, tt)) $
         assigns ! (agg ! (and_then ! (load ! (from ! (stop !)) (look ! 14 refl)) (and_then ! (load ! (from ! (fld ! refl (stop !))) (look_in ! 22 (sub ! 1 refl (whole !)))) (no_more !)))) (from ! (stop !)) (init ! 12 refl (tt, (tt, (record { fits = room.0 }, tt)))) $
         lends-ask ! mem run b o ys κ q γ room fm ask-met (λ α ε. (and_then ! (load ! (from ! (stop !)) (look ! 13 refl)) (no_more !))) (λ v is.
-        land ! (from ! (stop !)) (init ! 16 refl ((bool_Lawful 𝓛).typed (isNoTable ys) _ is).0) $
+        land ! (from ! (stop !)) (init ! 16 refl ((bool_Lawful 𝓛).typed (is_no_table ys) _ is).0) $
         assigns ! (addr ! (from ! (fld ! refl (hop ! (look_in ! 22 (sub ! 0 refl (whole !))) (stop !))))) (from ! (stop !)) (init ! 8 refl (tt, tt)) $
         assigns ! (agg ! (and_then ! (load ! (from ! (stop !)) (look ! 8 refl)) (and_then ! (load ! (from ! (fld ! refl (stop !))) (look_in ! 22 (sub ! 1 refl (whole !)))) (no_more !)))) (from ! (stop !)) (init ! 6 refl (tt, (tt, (record { fits = room.0 }, tt)))) $
         lends-fields ! mem run b o ys κ q γ room n n-fits fm take-met (λ α ε. (and_then ! (load ! (from ! (stop !)) (look ! 7 refl)) (and_then ! (load ! (from ! (stop !)) (look ! 21 refl)) (no_more !)))) (λ w w-is.
-        land ! (from ! (stop !)) (init ! 10 refl (fields-typed 𝓛 (fieldsIn ys n) w w-is)) $
-        let to-core : (Core 𝓛 mem run).Ghost = ((tt, tt, tt, (isNoTable ys, (fieldsIn ys n, (n, tt))), (v ∷ [], (w ∷ [], (vint w64 n ∷ [], tt)))), tt) in
+        land ! (from ! (stop !)) (init ! 10 refl (fields-typed 𝓛 (fields_in ys n) w w-is)) $
+        let to-core : (Core 𝓛 mem run).Ghost = ((tt, tt, tt, (is_no_table ys, (fields_in ys n, (n, tt))), (v ∷ [], (w ∷ [], (vint w64 n ∷ [], tt)))), tt) in
         use0 𝓛 (raw ((Core 𝓛 mem run).pre to-core)) (plain 𝓛 (bool ∷ FieldsRow ∷ u64 ∷ []) (bool_Makes 𝓛, (fields-makes 𝓛, (uint_Makes 𝓛 w64, tt))) to-core.0.3 to-core.0.4 (is, (w-is, ((refl, n-fits), tt))) (id⊢ 𝓤 (emp 𝓤))) $
-        calls-fn ! fm core.ended (core.clauses 𝓛 mem run) core-met to-core (λ c ws. c ≡ clearPut (isNoTable ys) (keyless (fieldsIn ys n)) n) (λ c ws. id⊢ 𝓤 _)
+        calls-fn ! fm core.ended (core.clauses 𝓛 mem run) core-met to-core (λ c ws. c ≡ clear_put (is_no_table ys) (keyless (fields_in ys n)) n) (λ c ws. id⊢ 𝓤 _)
         (and_then ! (load ! (from ! (stop !)) (look ! 17 refl)) (and_then ! (load ! (from ! (stop !)) (look ! 11 refl)) (and_then ! (load ! (from ! (stop !)) (look ! 21 refl)) (no_more !)))) (λ u c ws e c-is. drop ! $ drop ! $
         land ! (from ! (stop !)) (init ! 18 refl (res_typed 𝓛 c u c-is)) $
         assigns ! (addr ! (from ! (fld ! refl (hop ! (look_in ! 22 (sub ! 0 refl (whole !))) (stop !))))) (from ! (stop !)) (init ! 4 refl (tt, tt)) $

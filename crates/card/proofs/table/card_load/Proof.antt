@@ -8,10 +8,10 @@ use denote.RattleType.{Denots, Valss}
 use Rattle.fields.specs.declared.Asked.{Asked}
 use Rattle.slots.specs.declared.Slot.{Slot}
 use Rattle.slots.specs.Slots.{keyless}
-use Rattle.slot_calls.specs.Seen.{loadPut}
+use Rattle.slot_calls.specs.Seen.{load_put}
 use Rattle.faces.specs.Faces.{asking}
-use Rattle.slot_list.specs.List.{isNoTable, fieldsIn}
-use Rattle.card.specs.Table.{loadedIn}
+use Rattle.slot_list.specs.List.{is_no_table, fields_in}
+use Rattle.card.specs.Table.{loaded_in}
 use Rattle.walks.proofs.CallRules.{Of, calls-fn}
 use denote.Builtin.{bool}
 use denote.Plain.{bool_Makes, bool_Lawful}
@@ -73,16 +73,16 @@ module _ {M : Type 1} {𝓤 : Ura M} (𝓛 : Logic 𝓤) (mem : Memory → SProp
   abbrev Post : Val → SProp 𝓤
   Post = (walk_of 𝓛 f.ended stayed (f.clauses 𝓛 mem run)).post (((κ, (λ', tt)), (q, (p, tt)), tt, x, at), tt)
 
-  exits : (r : ℕ) (w : Val) (zs : List Slot) → (r ≡ (loadedIn ys n a ks).refusal) × (zs ≡ (loadedIn ys n a ks).table) → length zs ≡ length ys → Is u8 r (w ∷ []) → ent 𝓤 (⋆ 𝓛 (‵ (flft κ q) ∷ ‵ (finally R γ zs) ∷ (‵ (flft λ' p) ⊛ ‵ ftrue) ∷ [])) (Post w)
+  exits : (r : ℕ) (w : Val) (zs : List Slot) → (r ≡ (loaded_in ys n a ks).refusal) × (zs ≡ (loaded_in ys n a ks).table) → length zs ≡ length ys → Is u8 r (w ∷ []) → ent 𝓤 (⋆ 𝓛 (‵ (flft κ q) ∷ ‵ (finally R γ zs) ∷ (‵ (flft λ' p) ⊛ ‵ ftrue) ∷ [])) (Post w)
   exits r w zs e l is =
       qed 𝓛 (‵ (flft κ q) ∷ ‵ (finally R γ zs) ∷ (‵ (flft λ' p) ⊛ ‵ ftrue) ∷ []) ∵
-      suffices ! _ (ends_at 𝓛 f.ended stayed (f.clauses 𝓛 mem run) (((κ, (λ', tt)), (q, (p, tt)), tt, x, at), tt) w r (zs, (tt, (tt, (tt, (tt, (tt, (tt, (tt, (tt, (tt, tt)))))))))) (l, (tt, (tt, (tt, (tt, (tt, (tt, (tt, (tt, (tt, tt))))))))))) $ says ! (changed-is (loadedIn ys n a ks) e) $
+      suffices ! _ (ends_at 𝓛 f.ended stayed (f.clauses 𝓛 mem run) (((κ, (λ', tt)), (q, (p, tt)), tt, x, at), tt) w r (zs, (tt, (tt, (tt, (tt, (tt, (tt, (tt, (tt, (tt, tt)))))))))) (l, (tt, (tt, (tt, (tt, (tt, (tt, (tt, (tt, (tt, tt))))))))))) $ says ! (changed-is (loaded_in ys n a ks) e) $
       move ! (0 ∷ 2 ∷ []) $ join ! $ frame ! $ owned ! u8 (Is u8) (uint_Makes 𝓛 w8) r (w ∷ []) is $
       nothing ! $ nothing ! $ fjoin ! $ nothing ! $ fjoin ! $ nothing ! $ fjoin ! $ nothing ! $ fjoin ! $ nothing ! $ fjoin ! $ nothing ! $ fjoin ! $ nothing ! $ fjoin ! $ nothing ! $ fjoin ! $ nothing ! $ fjoin ! $ move ! (2 ∷ 0 ∷ []) $ fjoin ! $ done !
 
   -- what the core's triple binds outside
   abbrev to-core : Val → Val → (Core 𝓛 mem run).Ghost
-  to-core v w = (((λ', tt), (p, tt), tt, (isNoTable ys, (fieldsIn ys n, rest)), (v ∷ [], (w ∷ [], vals))), tt)
+  to-core v w = (((λ', tt), (p, tt), tt, (is_no_table ys, (fields_in ys n, rest)), (v ∷ [], (w ∷ [], vals))), tt)
 
   module _ (C : Calls 𝓤 H) (Λ : Loops 𝓤 H) (fm : FmC 𝓤 H 𝓛.laws C) (ask-met : Triple 𝓤 (C #is-no-table) (IsNoTable 𝓛 mem run)) (take-met : Triple 𝓤 (C #fields-in) (FieldsIn 𝓛 mem run)) (core-met : Triple 𝓤 (C #core) (Core 𝓛 mem run)) (put-met : Triple 𝓤 (C #put-slot) (PutSlot 𝓛 mem run)) where
     walk : ent 𝓤 (on_entry 𝓛 f.signature (κ, (λ', tt)) (q, (p, tt)) x at) (WpFn 𝓤 H C Λ code.function passed Post)
@@ -96,14 +96,14 @@ module _ {M : Type 1} {𝓤 : Ura M} (𝓛 : Logic 𝓤) (mem : Memory → SProp
         assigns ! (addr ! (from ! (fld ! refl (hop ! (look_in ! 40 (sub ! 0 refl (whole !))) (stop !))))) (from ! (stop !)) (init ! 16 refl (tt, tt)) $
         assigns ! (agg ! (and_then ! (load ! (from ! (stop !)) (look ! 16 refl)) (and_then ! (load ! (from ! (fld ! refl (stop !))) (look_in ! 40 (sub ! 1 refl (whole !)))) (no_more !)))) (from ! (stop !)) (init ! 14 refl (tt, (tt, (record { fits = room.0 }, tt)))) $
         lends-ask ! mem run b o ys κ q γ room fm ask-met (λ α ε. (and_then ! (load ! (from ! (stop !)) (look ! 15 refl)) (no_more !))) (λ v is.
-        land ! (from ! (stop !)) (init ! 18 refl ((bool_Lawful 𝓛).typed (isNoTable ys) _ is).0) $
+        land ! (from ! (stop !)) (init ! 18 refl ((bool_Lawful 𝓛).typed (is_no_table ys) _ is).0) $
         assigns ! (addr ! (from ! (fld ! refl (hop ! (look_in ! 40 (sub ! 0 refl (whole !))) (stop !))))) (from ! (stop !)) (init ! 10 refl (tt, tt)) $
         assigns ! (agg ! (and_then ! (load ! (from ! (stop !)) (look ! 10 refl)) (and_then ! (load ! (from ! (fld ! refl (stop !))) (look_in ! 40 (sub ! 1 refl (whole !)))) (no_more !)))) (from ! (stop !)) (init ! 8 refl (tt, (tt, (record { fits = room.0 }, tt)))) $
         lends-fields ! mem run b o ys κ q γ room n n-fits fm take-met (λ α ε. (and_then ! (load ! (from ! (stop !)) (look ! 9 refl)) (and_then ! (load ! (from ! (stop !)) (look ! 39 refl)) (no_more !)))) (λ w w-is.
-        land ! (from ! (stop !)) (init ! 12 refl (fields-typed 𝓛 (fieldsIn ys n) w w-is)) $
-        move ! (2 ∷ 3 ∷ []) $ use2 𝓛 (raw ((Core 𝓛 mem run).pre (to-core v w))) (with-seen 𝓛 λ' p Rest rest vals bool (bool_Makes 𝓛) (isNoTable ys) v is FieldsRow (fields-makes 𝓛) (fieldsIn ys n) w w-is (id⊢ 𝓤 (emp 𝓤))) $
+        land ! (from ! (stop !)) (init ! 12 refl (fields-typed 𝓛 (fields_in ys n) w w-is)) $
+        move ! (2 ∷ 3 ∷ []) $ use2 𝓛 (raw ((Core 𝓛 mem run).pre (to-core v w))) (with-seen 𝓛 λ' p Rest rest vals bool (bool_Makes 𝓛) (is_no_table ys) v is FieldsRow (fields-makes 𝓛) (fields_in ys n) w w-is (id⊢ 𝓤 (emp 𝓤))) $
         -- [what the core asks; what t owns; the token of κ; _19; …; _0; …]
-        calls-fn ! fm core.ended (core.clauses 𝓛 mem run) core-met (to-core v w) (λ c ws. c ≡ loadPut (isNoTable ys) (keyless (fieldsIn ys n)) n a ks) (λ c ws. id⊢ 𝓤 _)
+        calls-fn ! fm core.ended (core.clauses 𝓛 mem run) core-met (to-core v w) (λ c ws. c ≡ load_put (is_no_table ys) (keyless (fields_in ys n)) n a ks) (λ c ws. id⊢ 𝓤 _)
         (and_then ! (load ! (from ! (stop !)) (look ! 17 refl)) (and_then ! (load ! (from ! (stop !)) (look ! 11 refl)) (and_then ! (load ! (from ! (stop !)) (look ! 37 refl)) (and_then ! (load ! (from ! (stop !)) (look ! 35 refl)) (and_then ! (load ! (from ! (stop !)) (look ! 33 refl)) (and_then ! (load ! (from ! (stop !)) (look ! 31 refl)) (and_then ! (load ! (from ! (stop !)) (look ! 29 refl)) (and_then ! (load ! (from ! (stop !)) (look ! 27 refl)) (and_then ! (load ! (from ! (stop !)) (look ! 25 refl)) (and_then ! (load ! (from ! (stop !)) (look ! 23 refl)) (and_then ! (load ! (from ! (stop !)) (look ! 21 refl)) (no_more !)))))))))))) (λ u c ws e c-is.
         use1 𝓛 (‵ (flft λ' p) ⊛ ‵ ftrue) (id⊢ 𝓤 _) $ move ! (1 ∷ []) $ drop ! $ move ! (1 ∷ 2 ∷ []) $
         -- [what t owns; the token of κ; the token of λ; _19; …; _0; …]

@@ -9,10 +9,10 @@ use lib.Dec.{eqb}
 use contract.Monad.{fact_i}
 use Rattle.refusals.specs.Numbers.{done as accepted}
 use Rattle.slots.specs.Slots.{keyless}
-use Rattle.slot_calls.specs.Calls.{moveRefusalOf}
-use Rattle.slot_calls.specs.Seen.{keySlot, movePut, emptiedBy}
-use Rattle.slot_list.specs.List.{isNoTable, fieldsIn, slotIn}
-use Rattle.card.specs.Table.{movedIn}
+use Rattle.slot_calls.specs.Calls.{move_refusal_of}
+use Rattle.slot_calls.specs.Seen.{key_slot, move_put, emptied_by}
+use Rattle.slot_list.specs.List.{is_no_table, fields_in, slot_in}
+use Rattle.card.specs.Table.{moved_in}
 use Rattle.walks.proofs.CallRules.{plain, Of, calls-fn}
 use Rattle.walks.proofs.Heads.{same-value}
 use mir.Syntax.{erased}
@@ -21,7 +21,7 @@ use denote.Plain.{bool_Makes, bool_Lawful}
 use Rattle.slot_list.proofs.SlotLaws.{R, makes, typed, FieldsRow, fields-makes, fields-typed, Res, res-makes, res_typed}
 use Rattle.slot_list.proofs.SlotCalls.{IsNoTable, FieldsIn, SlotIn, PutSlot, lent, slice, lends-ask, lends-fields, lends_slot, lends-put, puts-slot}
 use Rattle.card.proofs.Answers.{changed-is}
-use Rattle.card.proofs.SeenTables.{carried-within, moved_in}
+use Rattle.card.proofs.SeenTables.{carried-within, moved_in-put}
 use Rattle.slot_puts.specs.contracts.emptied as emptied
 use Rattle.slot_puts.proofs.emptied.Symbol as emptied-def
 use Rattle.slot_puts.proofs.emptied.Symbol.{name as #emptied}
@@ -56,8 +56,8 @@ use Rattle.card.proofs.table.card_move.Statement as stated
 use Rattle.card.proofs.table.card_move.Code as code
 
 -- the type of a borrow that is made here
-abbrev lentTy : Ty
-lentTy = slice_ty (ty_ref erased mut (pointee R.written))
+abbrev lent_ty : Ty
+lent_ty = slice_ty (ty_ref erased mut (pointee R.written))
 
 abbrev stayed : Stays (f.ended).signature.params (f.ended).kept
 stayed = (gave_slice (0 ∷ []) tt (plainly (λ _. R)), (stay_dropped (plainly (λ _. u64)) yes, (stay_dropped (plainly (λ _. u64)) yes, (stay_dropped (plainly (λ _. u64)) yes, tt))))
@@ -87,10 +87,10 @@ module _ {M : Type 1} {𝓤 : Ura M} (𝓛 : Logic 𝓤) (mem : Memory → SProp
   abbrev Post : Val → SProp 𝓤
   Post = (walk_of 𝓛 f.ended stayed (f.clauses 𝓛 mem run)).post (((κ, tt), (q, tt), tt, x, at), tt)
 
-  exits : (r : ℕ) (w : Val) (zs : List Slot) → (r ≡ (movedIn ys i j n).refusal) × (zs ≡ (movedIn ys i j n).table) → length zs ≡ length ys → Is u8 r (w ∷ []) → ent 𝓤 (sep 𝓤 (A.lft κ q) (sem 𝓛 (finally R γ zs))) (Post w)
+  exits : (r : ℕ) (w : Val) (zs : List Slot) → (r ≡ (moved_in ys i j n).refusal) × (zs ≡ (moved_in ys i j n).table) → length zs ≡ length ys → Is u8 r (w ∷ []) → ent 𝓤 (sep 𝓤 (A.lft κ q) (sem 𝓛 (finally R γ zs))) (Post w)
   exits r w zs e l is =
       qed 𝓛 (‵ (flft κ q) ∷ ‵ (finally R γ zs) ∷ []) ∵
-      suffices ! _ (ends_at 𝓛 f.ended stayed (f.clauses 𝓛 mem run) (((κ, tt), (q, tt), tt, x, at), tt) w r (zs, (tt, (tt, (tt, tt)))) (l, (tt, (tt, (tt, tt))))) $ says ! (changed-is (movedIn ys i j n) e) $
+      suffices ! _ (ends_at 𝓛 f.ended stayed (f.clauses 𝓛 mem run) (((κ, tt), (q, tt), tt, x, at), tt) w r (zs, (tt, (tt, (tt, tt)))) (l, (tt, (tt, (tt, tt))))) $ says ! (changed-is (moved_in ys i j n) e) $
       nothing ! $ move ! (1 ∷ 0 ∷ []) $ join ! $ frame ! $ owned ! u8 (Is u8) (uint_Makes 𝓛 w8) r (w ∷ []) is $
       nothing ! $ nothing ! $ fjoin ! $ nothing ! $ fjoin ! $ nothing ! $ fjoin ! $ move ! (2 ∷ 0 ∷ []) $ fjoin ! $ done !
 
@@ -106,33 +106,33 @@ module _ {M : Type 1} {𝓤 : Ura M} (𝓛 : Logic 𝓤) (mem : Memory → SProp
         assigns ! (addr ! (from ! (fld ! refl (hop ! (look_in ! 50 (sub ! 0 refl (whole !))) (stop !))))) (from ! (stop !)) (init ! 36 refl (tt, tt)) $
         assigns ! (agg ! (and_then ! (load ! (from ! (stop !)) (look ! 36 refl)) (and_then ! (load ! (from ! (fld ! refl (stop !))) (look_in ! 50 (sub ! 1 refl (whole !)))) (no_more !)))) (from ! (stop !)) (init ! 34 refl (tt, (tt, (record { fits = room.0 }, tt)))) $
         lends-ask ! mem run b o ys κ q γ room fm ask-met (λ α ε. (and_then ! (load ! (from ! (stop !)) (look ! 35 refl)) (no_more !))) (λ v is.
-        land ! (from ! (stop !)) (init ! 38 refl ((bool_Lawful 𝓛).typed (isNoTable ys) _ is).0) $
+        land ! (from ! (stop !)) (init ! 38 refl ((bool_Lawful 𝓛).typed (is_no_table ys) _ is).0) $
         assigns ! (addr ! (from ! (fld ! refl (hop ! (look_in ! 50 (sub ! 0 refl (whole !))) (stop !))))) (from ! (stop !)) (init ! 30 refl (tt, tt)) $
         assigns ! (agg ! (and_then ! (load ! (from ! (stop !)) (look ! 30 refl)) (and_then ! (load ! (from ! (fld ! refl (stop !))) (look_in ! 50 (sub ! 1 refl (whole !)))) (no_more !)))) (from ! (stop !)) (init ! 28 refl (tt, (tt, (record { fits = room.0 }, tt)))) $
         lends-fields ! mem run b o ys κ q γ room i i-fits fm shows-met (λ α ε. (and_then ! (load ! (from ! (stop !)) (look ! 29 refl)) (and_then ! (load ! (from ! (stop !)) (look ! 49 refl)) (no_more !)))) (λ w w-is.
-        land ! (from ! (stop !)) (init ! 32 refl (fields-typed 𝓛 (fieldsIn ys i) w w-is)) $
+        land ! (from ! (stop !)) (init ! 32 refl (fields-typed 𝓛 (fields_in ys i) w w-is)) $
         assigns ! (addr ! (from ! (fld ! refl (hop ! (look_in ! 50 (sub ! 0 refl (whole !))) (stop !))))) (from ! (stop !)) (init ! 24 refl (tt, tt)) $
         assigns ! (agg ! (and_then ! (load ! (from ! (stop !)) (look ! 24 refl)) (and_then ! (load ! (from ! (fld ! refl (stop !))) (look_in ! 50 (sub ! 1 refl (whole !)))) (no_more !)))) (from ! (stop !)) (init ! 22 refl (tt, (tt, (record { fits = room.0 }, tt)))) $
         lends-fields ! mem run b o ys κ q γ room j j-fits fm shows-met (λ α ε. (and_then ! (load ! (from ! (stop !)) (look ! 23 refl)) (and_then ! (load ! (from ! (stop !)) (look ! 47 refl)) (no_more !)))) (λ y y-is.
-        land ! (from ! (stop !)) (init ! 26 refl (fields-typed 𝓛 (fieldsIn ys j) y y-is)) $
-        let to-judge : (Judge 𝓛 mem run).Ghost = ((tt, tt, tt, (isNoTable ys, (fieldsIn ys i, (fieldsIn ys j, (i, (j, (n, tt)))))), (v ∷ [], (w ∷ [], (y ∷ [], (vint w64 i ∷ [], (vint w64 j ∷ [], (vint w64 n ∷ [], tt))))))), tt) in
+        land ! (from ! (stop !)) (init ! 26 refl (fields-typed 𝓛 (fields_in ys j) y y-is)) $
+        let to-judge : (Judge 𝓛 mem run).Ghost = ((tt, tt, tt, (is_no_table ys, (fields_in ys i, (fields_in ys j, (i, (j, (n, tt)))))), (v ∷ [], (w ∷ [], (y ∷ [], (vint w64 i ∷ [], (vint w64 j ∷ [], (vint w64 n ∷ [], tt))))))), tt) in
         use0 𝓛 (raw ((Judge 𝓛 mem run).pre to-judge)) (plain 𝓛 (bool ∷ FieldsRow ∷ FieldsRow ∷ u64 ∷ u64 ∷ u64 ∷ []) (bool_Makes 𝓛, (fields-makes 𝓛, (fields-makes 𝓛, (uint_Makes 𝓛 w64, (uint_Makes 𝓛 w64, (uint_Makes 𝓛 w64, tt)))))) to-judge.0.3 to-judge.0.4 (is, (w-is, (y-is, ((refl, i-fits), ((refl, j-fits), ((refl, n-fits), tt)))))) (id⊢ 𝓤 (emp 𝓤))) $
-        calls-fn ! fm judge.ended (judge.clauses 𝓛 mem run) judge-met to-judge (λ r ws. r ≡ moveRefusalOf (isNoTable ys) (keyless (fieldsIn ys i)) (keyless (fieldsIn ys j)) i j n) (λ r ws. id⊢ 𝓤 _)
+        calls-fn ! fm judge.ended (judge.clauses 𝓛 mem run) judge-met to-judge (λ r ws. r ≡ move_refusal_of (is_no_table ys) (keyless (fields_in ys i)) (keyless (fields_in ys j)) i j n) (λ r ws. id⊢ 𝓤 _)
         (and_then ! (load ! (from ! (stop !)) (look ! 39 refl)) (and_then ! (load ! (from ! (stop !)) (look ! 33 refl)) (and_then ! (load ! (from ! (stop !)) (look ! 27 refl)) (and_then ! (load ! (from ! (stop !)) (look ! 49 refl)) (and_then ! (load ! (from ! (stop !)) (look ! 47 refl)) (and_then ! (load ! (from ! (stop !)) (look ! 45 refl)) (no_more !))))))) (λ m₀ r₀ ws₀ e₀ r₀-is. drop ! $ drop ! $
         land ! (from ! (stop !)) (init ! 42 refl ((uint_Lawful 𝓛 w8).typed r₀ _ r₀-is).0) $
         assigns ! (addr ! (from ! (fld ! refl (hop ! (look_in ! 50 (sub ! 0 refl (whole !))) (stop !))))) (from ! (stop !)) (init ! 18 refl (tt, tt)) $
         assigns ! (agg ! (and_then ! (load ! (from ! (stop !)) (look ! 18 refl)) (and_then ! (load ! (from ! (fld ! refl (stop !))) (look_in ! 50 (sub ! 1 refl (whole !)))) (no_more !)))) (from ! (stop !)) (init ! 16 refl (tt, (tt, (record { fits = room.0 }, tt)))) $
         let to-key : (Key 𝓛 mem run).Ghost = ((tt, tt, tt, (r₀, (i, tt)), (m₀ ∷ [], (vint w64 i ∷ [], tt))), tt) in
         use0 𝓛 (raw ((Key 𝓛 mem run).pre to-key)) (plain 𝓛 (u8 ∷ u64 ∷ []) (uint_Makes 𝓛 w8, (uint_Makes 𝓛 w64, tt)) to-key.0.3 to-key.0.4 (r₀-is, ((refl, i-fits), tt)) (id⊢ 𝓤 (emp 𝓤))) $
-        calls-fn ! fm key.ended (key.clauses 𝓛 mem run) key-met to-key (λ k ws. k ≡ keySlot (eqb r₀ accepted) i) (λ k ws. id⊢ 𝓤 _)
+        calls-fn ! fm key.ended (key.clauses 𝓛 mem run) key-met to-key (λ k ws. k ≡ key_slot (eqb r₀ accepted) i) (λ k ws. id⊢ 𝓤 _)
         (and_then ! (load ! (from ! (stop !)) (look ! 43 refl)) (and_then ! (load ! (from ! (stop !)) (look ! 49 refl)) (no_more !))) (λ m₁ k ws₁ e₁ k-is. drop ! $ drop ! $
         land ! (from ! (stop !)) (init ! 14 refl ((uint_Lawful 𝓛 w64).typed k _ k-is).0) $
         rewrite ! 14 (λ (z : Val). ‵ (fat full_share (ty_int w64) l₁₉ 0 z)) (same-value m₁ (vint w64 k) k-is.0) refl $
         lends_slot ! mem run b o ys κ q γ room k k-is.1 fm take-met (λ α ε. (and_then ! (load ! (from ! (stop !)) (look ! 17 refl)) (and_then ! (load ! (from ! (stop !)) (look ! 15 refl)) (no_more !)))) (λ z z-is.
-        land ! (from ! (stop !)) (init ! 20 refl (typed 𝓛 (slotIn ys k) z z-is)) $
-        let to-core : (Core 𝓛 mem run).Ghost = ((tt, tt, tt, (r₀, (slotIn ys k, (n, tt))), (m₀ ∷ [], (z ∷ [], (vint w64 n ∷ [], tt)))), tt) in
+        land ! (from ! (stop !)) (init ! 20 refl (typed 𝓛 (slot_in ys k) z z-is)) $
+        let to-core : (Core 𝓛 mem run).Ghost = ((tt, tt, tt, (r₀, (slot_in ys k, (n, tt))), (m₀ ∷ [], (z ∷ [], (vint w64 n ∷ [], tt)))), tt) in
         use0 𝓛 (raw ((Core 𝓛 mem run).pre to-core)) (plain 𝓛 (u8 ∷ R ∷ u64 ∷ []) (uint_Makes 𝓛 w8, (makes 𝓛, (uint_Makes 𝓛 w64, tt))) to-core.0.3 to-core.0.4 (r₀-is, (z-is, ((refl, n-fits), tt))) (fact_i 𝓤 _ (emp 𝓤) (carried-within ys i j n r₀ e₀ k e₁))) $
-        calls-fn ! fm core.ended (core.clauses 𝓛 mem run) core-met to-core (λ c ws. c ≡ movePut r₀ (slotIn ys k) n) (λ c ws. id⊢ 𝓤 _)
+        calls-fn ! fm core.ended (core.clauses 𝓛 mem run) core-met to-core (λ c ws. c ≡ move_put r₀ (slot_in ys k) n) (λ c ws. id⊢ 𝓤 _)
         (and_then ! (load ! (from ! (stop !)) (look ! 43 refl)) (and_then ! (load ! (from ! (stop !)) (look ! 21 refl)) (and_then ! (load ! (from ! (stop !)) (look ! 45 refl)) (no_more !)))) (λ u c ws e c-is. drop ! $ drop ! $
         land ! (from ! (stop !)) (init ! 40 refl (res_typed 𝓛 c u c-is)) $
         assigns ! (addr ! (from ! (fld ! refl (hop ! (look_in ! 50 (sub ! 0 refl (whole !))) (stop !))))) (from ! (stop !)) (init ! 10 refl (tt, tt)) $
@@ -144,15 +144,15 @@ module _ {M : Type 1} {𝓤 : Ura M} (𝓛 : Logic 𝓤) (mem : Memory → SProp
         assigns ! (agg ! (and_then ! (load ! (from ! (stop !)) (look ! 6 refl)) (and_then ! (load ! (from ! (fld ! refl (stop !))) (look_in ! 50 (sub ! 1 refl (whole !)))) (no_more !)))) (from ! (stop !)) (init ! 4 refl (tt, (tt, (record { fits = room.0 }, tt)))) $
         let to-empty : (Emptied 𝓛 mem run).Ghost = ((tt, tt, tt, (c, tt), (u ∷ [], tt)), tt) in
         use0 𝓛 (raw ((Emptied 𝓛 mem run).pre to-empty)) (plain 𝓛 (Res ∷ []) (res-makes 𝓛, tt) (c, tt) (u ∷ [], tt) (c-is, tt) (id⊢ 𝓤 (emp 𝓤))) $
-        calls-fn ! fm emptied.ended (emptied.clauses 𝓛 mem run) empty-met to-empty (λ d ws. d ≡ emptiedBy c) (λ d ws. id⊢ 𝓤 _) (and_then ! (load ! (from ! (stop !)) (look ! 41 refl)) (no_more !)) (λ v₂ d ws₂ e₂ d-is. drop ! $ drop ! $
+        calls-fn ! fm emptied.ended (emptied.clauses 𝓛 mem run) empty-met to-empty (λ d ws. d ≡ emptied_by c) (λ d ws. id⊢ 𝓤 _) (and_then ! (load ! (from ! (stop !)) (look ! 41 refl)) (no_more !)) (λ v₂ d ws₂ e₂ d-is. drop ! $ drop ! $
         land ! (from ! (stop !)) (init ! 2 refl (res_typed 𝓛 d v₂ d-is)) $
-        rewrite ! 4 (λ (m : ℕ). ‵ (fat full_share lentTy l₂₄ 0 (slice_val (b, o) m))) (sym k₁) refl $
+        rewrite ! 4 (λ (m : ℕ). ‵ (fat full_share lent_ty l₂₄ 0 (slice_val (b, o) m))) (sym k₁) refl $
         puts-slot ! mem run b o zs₁ κ q γ i i-fits d v₂ d-is fm put-met (and_then ! (load ! (from ! (stop !)) (look ! 3 refl)) (and_then ! (load ! (from ! (stop !)) (look ! 47 refl)) (and_then ! (load ! (from ! (stop !)) (look ! 1 refl)) (no_more !)))) (λ m r zs s l is'.
         -- [the token; the last list; _25; …; _0; …]
         land ! (from ! (stop !)) (init ! 52 refl ((uint_Lawful 𝓛 w8).typed r _ is').0) $
         returns ! (look ! 52 refl) $ forget ! 2 refl $ forget ! 4 refl $ forget ! 6 refl $ forget ! 8 refl $ forget ! 10 refl $ forget ! 12 refl $ forget ! 14 refl $ forget ! 16 refl $ forget ! 18 refl $ forget ! 20 refl $ forget ! 22 refl $ forget ! 24 refl $ forget ! 26 refl $ forget ! 28 refl $ forget ! 30 refl $ forget ! 32 refl $ forget ! 34 refl $ forget ! 36 refl $ forget ! 38 refl $ forget ! 40 refl $ forget ! 42 refl $ forget ! 44 refl $ forget ! 46 refl $ forget ! 48 refl $ forget ! 50 refl $ forget ! 52 refl $
         move ! (52 ∷ 53 ∷ []) $ free1 ! $ move ! (50 ∷ 51 ∷ []) $ free1 ! $ move ! (48 ∷ 49 ∷ []) $ free1 ! $ move ! (46 ∷ 47 ∷ []) $ free1 ! $ move ! (44 ∷ 45 ∷ []) $ free1 ! $ move ! (42 ∷ 43 ∷ []) $ free1 ! $ move ! (40 ∷ 41 ∷ []) $ free1 ! $ move ! (38 ∷ 39 ∷ []) $ free1 ! $ move ! (36 ∷ 37 ∷ []) $ free1 ! $ move ! (34 ∷ 35 ∷ []) $ free1 ! $ move ! (32 ∷ 33 ∷ []) $ free1 ! $ move ! (30 ∷ 31 ∷ []) $ free1 ! $ move ! (28 ∷ 29 ∷ []) $ free1 ! $ move ! (26 ∷ 27 ∷ []) $ free1 ! $ move ! (24 ∷ 25 ∷ []) $ free1 ! $ move ! (22 ∷ 23 ∷ []) $ free1 ! $ move ! (20 ∷ 21 ∷ []) $ free1 ! $ move ! (18 ∷ 19 ∷ []) $ free1 ! $ move ! (16 ∷ 17 ∷ []) $ free1 ! $ move ! (14 ∷ 15 ∷ []) $ free1 ! $ move ! (12 ∷ 13 ∷ []) $ free1 ! $ move ! (10 ∷ 11 ∷ []) $ free1 ! $ move ! (8 ∷ 9 ∷ []) $ free1 ! $ move ! (6 ∷ 7 ∷ []) $ free1 ! $ move ! (4 ∷ 5 ∷ []) $ free1 ! $ move ! (2 ∷ 3 ∷ []) $ free1 ! $ free0 ! $
-        by ! (exits r m zs (moved_in ys i j n r₀ e₀ k e₁ c e zs₁ s₁.1 d e₂ r zs s) (l ∙ k₁) is')))))))))))))))))))))))))))))))))))))
+        by ! (exits r m zs (moved_in-put ys i j n r₀ e₀ k e₁ c e zs₁ s₁.1 d e₂ r zs s) (l ∙ k₁) is')))))))))))))))))))))))))))))))))))))
 
 module _ {M : Type 1} {𝓤 : Ura M} (𝓛 : Logic 𝓤) (mem : Memory → SProp 𝓤) (run : Routine → Fun 𝓤) (𝓣 : Tables 𝓤 𝓛.H) (ask-met : Triple 𝓤 (𝓣.C #is-no-table) (IsNoTable 𝓛 mem run)) (shows-met : Triple 𝓤 (𝓣.C #fields-in) (FieldsIn 𝓛 mem run)) (judge-met : Triple 𝓤 (𝓣.C #judge) (Judge 𝓛 mem run)) (key-met : Triple 𝓤 (𝓣.C #key-slot) (Key 𝓛 mem run)) (take-met : Triple 𝓤 (𝓣.C #slot-in) (SlotIn 𝓛 mem run)) (core-met : Triple 𝓤 (𝓣.C #core) (Core 𝓛 mem run)) (put-met : Triple 𝓤 (𝓣.C #put-slot) (PutSlot 𝓛 mem run)) (empty-met : Triple 𝓤 (𝓣.C #emptied) (Emptied 𝓛 mem run)) where
   open 𝓛 use {H}

@@ -13,15 +13,15 @@ use denote.Plain.{bool_Lawful}
 use denote.Triple.Clauses.{Lasts}
 use Rattle.slots.specs.declared.Slot.{Slot}
 use Rattle.slots.specs.Slots.{keyless}
-use Rattle.slot_calls.specs.Seen.{keySlot}
-use Rattle.ciphering.specs.Span.{Ciphered, cipheredAs}
+use Rattle.slot_calls.specs.Seen.{key_slot}
+use Rattle.ciphering.specs.Span.{Ciphered, ciphered_as}
 use Rattle.plan.specs.declared.Plan.{Plan}
 use Rattle.whole.specs.declared.Pdu.{Pdu}
-use Rattle.whole.specs.Whole.{hasNoPiece, judgedPlan, WholeMay, wholeAfter}
+use Rattle.whole.specs.Whole.{has_no_piece, judged_plan, WholeMay, whole_after}
 use Rattle.whole.proofs.Seen.{whole-may}
-use Rattle.slot_list.specs.List.{isNoTable, fieldsIn, slotIn}
-use Rattle.faces.specs.Faces.{pduAs}
-use Rattle.card.specs.Table.{wholeAnswerIn}
+use Rattle.slot_list.specs.List.{is_no_table, fields_in, slot_in}
+use Rattle.faces.specs.Faces.{pdu_as}
+use Rattle.card.specs.Table.{whole_answer_in}
 use Rattle.walks.proofs.CallRules.{plain, Of, calls-fn}
 use Rattle.walks.proofs.Heads.{same-value}
 use Rattle.slot_list.proofs.SlotLaws.{R, makes, typed, fields-typed}
@@ -113,10 +113,10 @@ module _ {M : Type 1} {𝓤 : Ura M} (𝓛 : Logic 𝓤) (mem : Memory → SProp
   tail-are = ((refl, kind_fits), ((refl, state-fits), ((refl, l-fits), ((refl, a-fits), ((refl, s-fits), tt)))))
 
   abbrev u : Pdu
-  u = pduAs kind state l a s
+  u = pdu_as kind state l a s
 
   abbrev judged : Plan
-  judged = judgedPlan (isNoTable ys) (keyless (fieldsIn ys number)) direction number iv.now buf.now u
+  judged = judged_plan (is_no_table ys) (keyless (fields_in ys number)) direction number iv.now buf.now u
 
   -- the parameters of the core after the plan and the slot
   abbrev Last : List RattleType
@@ -130,24 +130,24 @@ module _ {M : Type 1} {𝓤 : Ura M} (𝓛 : Logic 𝓤) (mem : Memory → SProp
 
   -- the last values of the core's parameters, and what the core says of them
   abbrev Ends : Plan → ℕ → Type 0
-  Ends j k = Lasts core.ended (λ', tt) (j, (slotIn ys k, last))
+  Ends j k = Lasts core.ended (λ', tt) (j, (slot_in ys k, last))
 
   abbrev ended : (j : Plan) (k : ℕ) → ℕ → Ends j k → Ciphered
-  ended j k r ws = cipheredAs r ws.1.1.1.0 ws.1.1.1.1.0
+  ended j k r ws = ciphered_as r ws.1.1.1.0 ws.1.1.1.1.0
 
   abbrev Says : (j : Plan) (k : ℕ) → ℕ → Ends j k → Type 0
-  Says j k r ws = ended j k r ws ≡ wholeAfter j (slotIn ys k) iv.now buf.now
+  Says j k r ws = ended j k r ws ≡ whole_after j (slot_in ys k) iv.now buf.now
 
   may : (j : Plan) → j ≡ judged → WholeMay j iv.now buf.now
-  may j e = subst (λ (p : Plan). WholeMay p iv.now buf.now) (sym e) (whole-may (isNoTable ys) (keyless (fieldsIn ys number)) direction number iv.now buf.now u)
+  may j e = subst (λ (p : Plan). WholeMay p iv.now buf.now) (sym e) (whole-may (is_no_table ys) (keyless (fields_in ys number)) direction number iv.now buf.now u)
 
-  answered : (j : Plan) → j ≡ judged → (k : ℕ) → k ≡ keySlot (not (hasNoPiece j)) number → wholeAfter j (slotIn ys k) iv.now buf.now ≡ wholeAnswerIn ys direction number iv.now buf.now u
+  answered : (j : Plan) → j ≡ judged → (k : ℕ) → k ≡ key_slot (not (has_no_piece j)) number → whole_after j (slot_in ys k) iv.now buf.now ≡ whole_answer_in ys direction number iv.now buf.now u
   answered = whole_in ys number direction iv.now buf.now u
 
   abbrev Has : (j : Plan) (k : ℕ) → Ends j k → List (Item 𝓤)
-  Has j k ws = (‵ (flft κ q) ⊛ (‵ (flft λ' p) ⊛ ‵ ftrue)) ∷ ‵ (lasts core.ended (λ', tt) (j, (slotIn ys k, last)) ws) ∷ []
+  Has j k ws = (‵ (flft κ q) ⊛ (‵ (flft λ' p) ⊛ ‵ ftrue)) ∷ ‵ (lasts core.ended (λ', tt) (j, (slot_in ys k, last)) ws) ∷ []
 
-  exits : (j : Plan) (k r : ℕ) (w : Val) (ws : Ends j k) → ended j k r ws ≡ wholeAnswerIn ys direction number iv.now buf.now u → Is u8 r (w ∷ []) → ent 𝓤 (⋆ 𝓛 (Has j k ws)) (Post w)
+  exits : (j : Plan) (k r : ℕ) (w : Val) (ws : Ends j k) → ended j k r ws ≡ whole_answer_in ys direction number iv.now buf.now u → Is u8 r (w ∷ []) → ent 𝓤 (⋆ 𝓛 (Has j k ws)) (Post w)
   exits j k r w ws e is =
       qed 𝓛 (Has j k ws) ∵ move ! (1 ∷ []) $ fsplit ! $ drop ! $ fsplit ! $ drop ! $ fsplit ! $ drop ! $ fsplit ! $ fsplit ! $ move ! (1 ∷ []) $ feq_l ! (λ long.
       -- [the last bytes; the last value of blocks; the tokens]
@@ -157,10 +157,10 @@ module _ {M : Type 1} {𝓤 : Ura M} (𝓛 : Logic 𝓤) (mem : Memory → SProp
 
   -- what the triples of the judge and of the core bind outside
   abbrev to-judge : ℕ → GName → Val → Val → (Judge 𝓛 mem run).Ghost
-  to-judge α δ v w = (((λ', (α ∷ [], tt)), (PosShare.left p, (full_share, tt)), tt, (isNoTable ys, (fieldsIn ys number, (direction, (number, (iv, (record { ref_ptr = buf.ref_ptr; ghost_name = δ; now = buf.now }, tail)))))), (v ∷ [], (w ∷ [], (vint w64 direction ∷ [], (vint w64 number ∷ [], (bytes iv ∷ [], (bytes buf ∷ [], tail-vals))))))), tt)
+  to-judge α δ v w = (((λ', (α ∷ [], tt)), (PosShare.left p, (full_share, tt)), tt, (is_no_table ys, (fields_in ys number, (direction, (number, (iv, (record { ref_ptr = buf.ref_ptr; ghost_name = δ; now = buf.now }, tail)))))), (v ∷ [], (w ∷ [], (vint w64 direction ∷ [], (vint w64 number ∷ [], (bytes iv ∷ [], (bytes buf ∷ [], tail-vals))))))), tt)
 
   abbrev to-core : Plan → Val → ℕ → Val → (Core 𝓛 mem run).Ghost
-  to-core j v k w = (((λ', tt), (p, tt), tt, (j, (slotIn ys k, last)), (v ∷ [], (w ∷ [], last-vals))), tt)
+  to-core j v k w = (((λ', tt), (p, tt), tt, (j, (slot_in ys k, last)), (v ∷ [], (w ∷ [], last-vals))), tt)
 
   module _ (C : Calls 𝓤 H) (Λ : Loops 𝓤 H) (fm : FmC 𝓤 H 𝓛.laws C) (ask-met : Triple 𝓤 (C #is-no-table) (IsNoTable 𝓛 mem run)) (shows-met : Triple 𝓤 (C #fields-in) (FieldsIn 𝓛 mem run)) (judge-met : Triple 𝓤 (C #judge) (Judge 𝓛 mem run)) (key-met : Triple 𝓤 (C #key-slot) (Key 𝓛 mem run)) (take-met : Triple 𝓤 (C #slot-in) (SlotIn 𝓛 mem run)) (core-met : Triple 𝓤 (C #core) (Core 𝓛 mem run)) where
     walk : ent 𝓤 (on_entry 𝓛 f.signature (κ, (λ', tt)) (q, (p, tt)) x at) (WpFn 𝓤 H C Λ code.function passed Post)
@@ -173,32 +173,32 @@ module _ {M : Type 1} {𝓤 : Ura M} (𝓛 : Logic 𝓤) (mem : Memory → SProp
         -- [what t owns; the token of κ; the token of λ; what the others own; _21; …; _0; …]
         asks-table ! mem run b o ys κ q γ fm ask-met (and_then ! (load ! (from ! (stop !)) (look ! 44 refl)) (no_more !)) (λ v is.
         -- [the token of κ; what t owns; the token of λ; what the others own; _21; …; _0; …]
-        land ! (from ! (stop !)) (init ! 18 refl ((bool_Lawful 𝓛).typed (isNoTable ys) _ is).0) $ move ! (1 ∷ 0 ∷ []) $
+        land ! (from ! (stop !)) (init ! 18 refl ((bool_Lawful 𝓛).typed (is_no_table ys) _ is).0) $ move ! (1 ∷ 0 ∷ []) $
         takes-fields ! mem run b o ys κ q γ number number_fits fm shows-met (and_then ! (load ! (from ! (stop !)) (look ! 44 refl)) (and_then ! (load ! (from ! (stop !)) (look ! 40 refl)) (no_more !))) (λ w w-is.
-        land ! (from ! (stop !)) (init ! 16 refl (fields-typed 𝓛 (fieldsIn ys number) w w-is)) $
+        land ! (from ! (stop !)) (init ! 16 refl (fields-typed 𝓛 (fields_in ys number) w w-is)) $
         assigns ! (addr ! (from ! (fld ! refl (hop ! (look_in ! 36 (sub ! 0 refl (whole !))) (stop !))))) (from ! (stop !)) (init ! 14 refl (tt, tt)) $
         assigns ! (agg ! (and_then ! (load ! (from ! (stop !)) (look ! 14 refl)) (and_then ! (load ! (from ! (fld ! refl (stop !))) (look_in ! 36 (sub ! 1 refl (whole !)))) (no_more !)))) (from ! (stop !)) (init ! 12 refl (tt, (tt, (record { fits = buf-room.0 }, tt)))) $
         move ! (3 ∷ []) $ fsplit ! $ drop ! $ fsplit ! $ drop ! $ fsplit ! $ move ! (1 ∷ []) $ fsplit ! $ move ! (1 ∷ []) $ fsplit ! $ drop ! $ fsplit ! $ drop ! $ fsplit ! $ drop ! $ fsplit ! $ drop ! $ fsplit ! $ drop ! $
         move ! (5 ∷ []) $ split ! $ move ! (1 ∷ []) $ drop ! $ move ! (2 ∷ 0 ∷ 3 ∷ []) $
         -- [what buf owns; the token of λ; what iv owns; what the places after them own; the token of κ; what t owns; _21; …; _0; …]
-        lends-judge λ' p iv buf ! tt (λ α δ. (Judge 𝓛 mem run).pre (to-judge α δ v w)) (λ α δ. with-lent 𝓛 λ' p iv buf α δ Tail tail tail-vals tail-makes tail-are direction direction-fits number number_fits (isNoTable ys) v is (fieldsIn ys number) w w-is) (λ α δ.
+        lends-judge λ' p iv buf ! tt (λ α δ. (Judge 𝓛 mem run).pre (to-judge α δ v w)) (λ α δ. with-lent 𝓛 λ' p iv buf α δ Tail tail tail-vals tail-makes tail-are direction direction-fits number number_fits (is_no_table ys) v is (fields_in ys number) w w-is) (λ α δ.
         calls-fn ! fm judge.ended (judge.clauses 𝓛 mem run) judge-met (to-judge α δ v w) (λ j ws. j ≡ judged) (λ j ws. id⊢ 𝓤 _)
         (and_then ! (load ! (from ! (stop !)) (look ! 20 refl)) (and_then ! (load ! (from ! (stop !)) (look ! 18 refl)) (and_then ! (load ! (from ! (stop !)) (look ! 44 refl)) (and_then ! (load ! (from ! (stop !)) (look ! 42 refl)) (and_then ! (load ! (from ! (stop !)) (look ! 40 refl)) (and_then ! (load ! (from ! (stop !)) (look ! 14 refl)) (and_then ! (load ! (from ! (stop !)) (look ! 36 refl)) (and_then ! (load ! (from ! (stop !)) (look ! 34 refl)) (and_then ! (load ! (from ! (stop !)) (look ! 32 refl)) (and_then ! (load ! (from ! (stop !)) (look ! 30 refl)) (and_then ! (load ! (from ! (stop !)) (look ! 28 refl)) (no_more !)))))))))))) (λ m₀ j ws₀ e₀ j-is. judge-back λ' p iv buf ! tt α buf-room (id⊢ 𝓤 _) (
         land ! (from ! (stop !)) (init ! 24 refl (plan-typed 𝓛 j m₀ j-is)) $
         let to-key : (Key 𝓛 mem run).Ghost = ((tt, tt, tt, (j, (number, tt)), (m₀ ∷ [], (vint w64 number ∷ [], tt))), tt) in
         use0 𝓛 (raw ((Key 𝓛 mem run).pre to-key)) (plain 𝓛 (Planned ∷ u64 ∷ []) (plan-makes 𝓛, (uint_Makes 𝓛 w64, tt)) to-key.0.3 to-key.0.4 (j-is, ((refl, number_fits), tt)) (id⊢ 𝓤 (emp 𝓤))) $
-        calls-fn ! fm key.ended (key.clauses 𝓛 mem run) key-met to-key (λ k ws. k ≡ keySlot (not (hasNoPiece j)) number) (λ k ws. id⊢ 𝓤 _)
+        calls-fn ! fm key.ended (key.clauses 𝓛 mem run) key-met to-key (λ k ws. k ≡ key_slot (not (has_no_piece j)) number) (λ k ws. id⊢ 𝓤 _)
         (and_then ! (load ! (from ! (stop !)) (look ! 25 refl)) (and_then ! (load ! (from ! (stop !)) (look ! 43 refl)) (no_more !))) (λ m₁ k ws₁ e₁ k-is. drop ! $ drop ! $
         land ! (from ! (stop !)) (init ! 12 refl ((uint_Lawful 𝓛 w64).typed k _ k-is).0) $
         rewrite ! 12 (λ (z : Val). ‵ (fat full_share (ty_int w64) l₁₈ 0 z)) (same-value m₁ (vint w64 k) k-is.0) refl $ move ! (5 ∷ 4 ∷ []) $
         takes-slot ! mem run b o ys κ q γ k k-is.1 fm take-met (and_then ! (load ! (from ! (stop !)) (look ! 46 refl)) (and_then ! (load ! (from ! (stop !)) (look ! 12 refl)) (no_more !))) (λ z z-is.
-        land ! (from ! (stop !)) (init ! 22 refl (typed 𝓛 (slotIn ys k) z z-is)) $ move ! (1 ∷ []) $ drop ! $
+        land ! (from ! (stop !)) (init ! 22 refl (typed 𝓛 (slot_in ys k) z z-is)) $ move ! (1 ∷ []) $ drop ! $
         -- [the token of κ; what buf owns; the token of λ; what iv owns; what the places after them own; _21; …; _0; …]
         assigns ! (addr ! (from ! (fld ! refl (hop ! (look_in ! 37 (sub ! 0 refl (whole !))) (stop !))))) (from ! (stop !)) (init ! 9 refl (tt, tt)) $
         assigns ! (agg ! (and_then ! (load ! (from ! (stop !)) (look ! 9 refl)) (and_then ! (load ! (from ! (fld ! refl (stop !))) (look_in ! 37 (sub ! 1 refl (whole !)))) (no_more !)))) (from ! (stop !)) (init ! 7 refl (tt, (tt, (record { fits = buf-room.0 }, tt)))) $
         assigns ! (addr ! (from ! (hop ! (look ! 25 refl) (stop !)))) (from ! (stop !)) (init ! 5 refl (tt, tt)) $
         move ! (1 ∷ 4 ∷ []) $ fjoin ! $ move ! (3 ∷ 0 ∷ []) $ fjoin ! $ nothing ! $ move ! (3 ∷ 0 ∷ []) $ join ! $
-        use2 𝓛 (raw ((Core 𝓛 mem run).pre (to-core j m₀ k z))) (with-seen 𝓛 λ' p Last last last-vals Planned (plan-makes 𝓛) j m₀ j-is R (makes 𝓛) (slotIn ys k) z z-is (fact_i 𝓤 _ (emp 𝓤) (may j e₀))) $
+        use2 𝓛 (raw ((Core 𝓛 mem run).pre (to-core j m₀ k z))) (with-seen 𝓛 λ' p Last last last-vals Planned (plan-makes 𝓛) j m₀ j-is R (makes 𝓛) (slot_in ys k) z z-is (fact_i 𝓤 _ (emp 𝓤) (may j e₀))) $
         -- [what the core asks; the token of κ; _21; …; _0; …]
         calls-fn ! fm core.ended (core.clauses 𝓛 mem run) core-met (to-core j m₀ k z) (Says j k) (λ r ws. id⊢ 𝓤 _)
         (and_then ! (load ! (from ! (stop !)) (look ! 20 refl)) (and_then ! (load ! (from ! (stop !)) (look ! 18 refl)) (and_then ! (load ! (from ! (stop !)) (look ! 36 refl)) (and_then ! (load ! (from ! (stop !)) (look ! 4 refl)) (and_then ! (load ! (from ! (stop !)) (look ! 2 refl)) (no_more !)))))) (λ u r ws e is'.

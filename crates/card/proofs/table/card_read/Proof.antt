@@ -9,10 +9,10 @@ use denote.Triple.Clauses.{Lasts}
 use Rattle.slots.specs.declared.Slot.{Slot}
 use Rattle.slots.specs.Slots.{keyless}
 use Rattle.slot_calls.specs.declared.Shown.{Shown}
-use Rattle.slot_calls.specs.Calls.{shownOf}
-use Rattle.slot_list.specs.List.{isNoTable, fieldsIn}
-use Rattle.card.specs.Table.{shownIn}
-use Rattle.faces.specs.Faces.{shownAs}
+use Rattle.slot_calls.specs.Calls.{shown_of}
+use Rattle.slot_list.specs.List.{is_no_table, fields_in}
+use Rattle.card.specs.Table.{shown_in}
+use Rattle.faces.specs.Faces.{shown_as}
 use Rattle.walks.proofs.CallRules.{Of, calls-fn}
 use Rattle.slot_list.proofs.SlotLaws.{R, FieldsRow, fields-makes, fields-typed}
 use denote.Builtin.{bool}
@@ -72,15 +72,15 @@ module _ {M : Type 1} {𝓤 : Ura M} (𝓛 : Logic 𝓤) (mem : Memory → SProp
 
   -- the last values of the core's parameters, and the answer that they are
   abbrev Ends : Type 0
-  Ends = Lasts core.ended (λ', tt) (isNoTable ys, (fieldsIn ys n, rest))
+  Ends = Lasts core.ended (λ', tt) (is_no_table ys, (fields_in ys n, rest))
 
   abbrev Shows : ℕ → Ends → Shown
-  Shows r ws = shownAs r ws.1.1.1.0 ws.1.1.1.1.0 ws.1.1.1.1.1.0 ws.1.1.1.1.1.1.0 ws.1.1.1.1.1.1.1.0 ws.1.1.1.1.1.1.1.1.0 ws.1.1.1.1.1.1.1.1.1.0 ws.1.1.1.1.1.1.1.1.1.1.0
+  Shows r ws = shown_as r ws.1.1.1.0 ws.1.1.1.1.0 ws.1.1.1.1.1.0 ws.1.1.1.1.1.1.0 ws.1.1.1.1.1.1.1.0 ws.1.1.1.1.1.1.1.1.0 ws.1.1.1.1.1.1.1.1.1.0 ws.1.1.1.1.1.1.1.1.1.1.0
 
   abbrev Has : Ends → List (Item 𝓤)
-  Has ws = (‵ (flft κ q) ⊛ (‵ (flft λ' p) ⊛ ‵ ftrue)) ∷ ‵ (lasts core.ended (λ', tt) (isNoTable ys, (fieldsIn ys n, rest)) ws) ∷ []
+  Has ws = (‵ (flft κ q) ⊛ (‵ (flft λ' p) ⊛ ‵ ftrue)) ∷ ‵ (lasts core.ended (λ', tt) (is_no_table ys, (fields_in ys n, rest)) ws) ∷ []
 
-  exits : (r : ℕ) (w : Val) (ws : Ends) → Shows r ws ≡ shownIn ys n → Is u8 r (w ∷ []) → ent 𝓤 (⋆ 𝓛 (Has ws)) (Post w)
+  exits : (r : ℕ) (w : Val) (ws : Ends) → Shows r ws ≡ shown_in ys n → Is u8 r (w ∷ []) → ent 𝓤 (⋆ 𝓛 (Has ws)) (Post w)
   exits r w ws e is =
       qed 𝓛 (Has ws) ∵ move ! (1 ∷ []) $ fsplit ! $ drop ! $
       suffices ! _ (ends_at 𝓛 f.ended stayed (f.clauses 𝓛 mem run) (((κ, (λ', tt)), (q, (p, tt)), tt, x, at), tt) w r ws.1 (tt, (tt, (tt, (tt, (tt, (tt, (tt, (tt, (tt, (tt, tt))))))))))) $ says ! e $
@@ -88,7 +88,7 @@ module _ {M : Type 1} {𝓤 : Ura M} (𝓛 : Logic 𝓤) (mem : Memory → SProp
 
   -- what the core's triple binds outside
   abbrev to-core : Val → Val → (Core 𝓛 mem run).Ghost
-  to-core v w = (((λ', tt), (p, tt), tt, (isNoTable ys, (fieldsIn ys n, rest)), (v ∷ [], (w ∷ [], vals))), tt)
+  to-core v w = (((λ', tt), (p, tt), tt, (is_no_table ys, (fields_in ys n, rest)), (v ∷ [], (w ∷ [], vals))), tt)
 
   module _ (C : Calls 𝓤 H) (Λ : Loops 𝓤 H) (fm : FmC 𝓤 H 𝓛.laws C) (ask-met : Triple 𝓤 (C #is-no-table) (IsNoTable 𝓛 mem run)) (take-met : Triple 𝓤 (C #fields-in) (FieldsIn 𝓛 mem run)) (core-met : Triple 𝓤 (C #core) (Core 𝓛 mem run)) where
     walk : ent 𝓤 (on_entry 𝓛 f.signature (κ, (λ', tt)) (q, (p, tt)) x at) (WpFn 𝓤 H C Λ code.function passed Post)
@@ -101,9 +101,9 @@ module _ {M : Type 1} {𝓤 : Ura M} (𝓛 : Logic 𝓤) (mem : Memory → SProp
         -- [what t owns; the token of κ; the token of λ; what the others own; _20; …; _0; …]
         asks-table ! mem run b o ys κ q γ fm ask-met (and_then ! (load ! (from ! (stop !)) (look ! 42 refl)) (no_more !)) (λ v is.
         -- [the token of κ; what t owns; the token of λ; what the others own; _20; …; _0; …]
-        land ! (from ! (stop !)) (init ! 22 refl ((bool_Lawful 𝓛).typed (isNoTable ys) _ is).0) $ move ! (1 ∷ 0 ∷ []) $
+        land ! (from ! (stop !)) (init ! 22 refl ((bool_Lawful 𝓛).typed (is_no_table ys) _ is).0) $ move ! (1 ∷ 0 ∷ []) $
         takes-fields ! mem run b o ys κ q γ n n-fits fm take-met (and_then ! (load ! (from ! (stop !)) (look ! 42 refl)) (and_then ! (load ! (from ! (stop !)) (look ! 40 refl)) (no_more !))) (λ w w-is.
-        land ! (from ! (stop !)) (init ! 20 refl (fields-typed 𝓛 (fieldsIn ys n) w w-is)) $ move ! (1 ∷ []) $ drop ! $
+        land ! (from ! (stop !)) (init ! 20 refl (fields-typed 𝓛 (fields_in ys n) w w-is)) $ move ! (1 ∷ []) $ drop ! $
         -- [the token of κ; the token of λ; what the others own; _20; …; _0; …]
         assigns ! (addr ! (from ! (hop ! (look ! 37 refl) (stop !)))) (from ! (stop !)) (init ! 17 refl (tt, tt)) $
         assigns ! (addr ! (from ! (hop ! (look ! 35 refl) (stop !)))) (from ! (stop !)) (init ! 15 refl (tt, tt)) $
@@ -113,9 +113,9 @@ module _ {M : Type 1} {𝓤 : Ura M} (𝓛 : Logic 𝓤) (mem : Memory → SProp
         assigns ! (addr ! (from ! (hop ! (look ! 27 refl) (stop !)))) (from ! (stop !)) (init ! 7 refl (tt, tt)) $
         assigns ! (addr ! (from ! (hop ! (look ! 25 refl) (stop !)))) (from ! (stop !)) (init ! 5 refl (tt, tt)) $
         assigns ! (addr ! (from ! (hop ! (look ! 23 refl) (stop !)))) (from ! (stop !)) (init ! 3 refl (tt, tt)) $
-        move ! (1 ∷ 2 ∷ []) $ use2 𝓛 (raw ((Core 𝓛 mem run).pre (to-core v w))) (with-seen 𝓛 λ' p Rest rest vals bool (bool_Makes 𝓛) (isNoTable ys) v is FieldsRow (fields-makes 𝓛) (fieldsIn ys n) w w-is (id⊢ 𝓤 (emp 𝓤))) $
+        move ! (1 ∷ 2 ∷ []) $ use2 𝓛 (raw ((Core 𝓛 mem run).pre (to-core v w))) (with-seen 𝓛 λ' p Rest rest vals bool (bool_Makes 𝓛) (is_no_table ys) v is FieldsRow (fields-makes 𝓛) (fields_in ys n) w w-is (id⊢ 𝓤 (emp 𝓤))) $
         -- [what the core asks; the token of κ; _20; …; _0; …]
-        calls-fn ! fm core.ended (core.clauses 𝓛 mem run) core-met (to-core v w) (λ r ws. Shows r ws ≡ shownOf (isNoTable ys) (keyless (fieldsIn ys n)) n) (λ r ws. id⊢ 𝓤 _)
+        calls-fn ! fm core.ended (core.clauses 𝓛 mem run) core-met (to-core v w) (λ r ws. Shows r ws ≡ shown_of (is_no_table ys) (keyless (fields_in ys n)) n) (λ r ws. id⊢ 𝓤 _)
         (and_then ! (load ! (from ! (stop !)) (look ! 20 refl)) (and_then ! (load ! (from ! (stop !)) (look ! 18 refl)) (and_then ! (load ! (from ! (stop !)) (look ! 38 refl)) (and_then ! (load ! (from ! (stop !)) (look ! 16 refl)) (and_then ! (load ! (from ! (stop !)) (look ! 14 refl)) (and_then ! (load ! (from ! (stop !)) (look ! 12 refl)) (and_then ! (load ! (from ! (stop !)) (look ! 10 refl)) (and_then ! (load ! (from ! (stop !)) (look ! 8 refl)) (and_then ! (load ! (from ! (stop !)) (look ! 6 refl)) (and_then ! (load ! (from ! (stop !)) (look ! 4 refl)) (and_then ! (load ! (from ! (stop !)) (look ! 2 refl)) (no_more !)))))))))))) (λ u r ws e is'.
         use1 𝓛 (‵ (flft λ' p) ⊛ ‵ ftrue) (id⊢ 𝓤 _) $ move ! (2 ∷ 0 ∷ []) $ join ! $
         -- [the tokens; the last values; _20; …; _0; …]

@@ -9,7 +9,7 @@ use Rattle.span.specs.Span.{xored}
 use Rattle.keystream.specs.Stream.{keystream}
 use Rattle.line_values.specs.Parts.{are_bytes, bytes_of}
 use Rattle.case_reader.specs.Case.{case_of}
-use Rattle.cases.specs.Answer.{cipheredCase}
+use Rattle.cases.specs.Answer.{ciphered_case}
 use Rattle.case_reader.proofs.Passed.{passed, buffer-readable}
 use Rattle.cases.proofs.answer.cipher.Statement.{statement}
 use Rattle.cases.proofs.answer.cipher.Tie as tie
@@ -36,7 +36,7 @@ cipher-from-requires c κs =
     (omega arith, record { inside = omega arith; streamed = omega arith })
 
 returns : tie.Need-returns
-unfolding cipheredCase case_of
+unfolding ciphered_case case_of
 returns c =
     c.before.before.cipher-from.ensures.0
     ∙ (λ i.

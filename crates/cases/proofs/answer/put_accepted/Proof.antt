@@ -5,7 +5,7 @@ use native.Mathlib.Omega.{arith}
 use borrow.Author.Rules.{rules}
 use Rattle.writing.proofs.Puts.{put_then, put-length, put_as}
 use Rattle.case_reader.specs.Case.{case_of}
-use Rattle.cases.specs.Answer.{modeText, bufferText, acceptedText}
+use Rattle.cases.specs.Answer.{mode_text, buffer_text, accepted_text}
 use Rattle.cases.proofs.Texts.{mode-length, buffer-fits}
 use Rattle.cases.proofs.answer.put_accepted.Statement.{statement}
 use Rattle.cases.proofs.answer.put_accepted.Tie as tie
@@ -18,11 +18,11 @@ put-buffer-requires c κs =
 
 -- the values are those of the case
 made : (c : tie.After-iv-of)
-    → modeText c.before.before.value.result c.before.key_of.result c.iv-of.result ++ bufferText (case_of c.before.before.before.before.before.before.args.line.now)
-    ≡ acceptedText (case_of c.before.before.before.before.before.before.args.line.now)
-unfolding acceptedText case_of
+    → mode_text c.before.before.value.result c.before.key_of.result c.iv-of.result ++ buffer_text (case_of c.before.before.before.before.before.before.args.line.now)
+    ≡ accepted_text (case_of c.before.before.before.before.before.before.args.line.now)
+unfolding accepted_text case_of
 made c =
-    λ i. modeText (c.before.before.value.ensures i) (c.before.key_of.ensures i) (c.iv-of.ensures i) ++ bufferText (case_of c.before.before.before.before.before.before.args.line.now)
+    λ i. mode_text (c.before.before.value.ensures i) (c.before.key_of.ensures i) (c.iv-of.ensures i) ++ buffer_text (case_of c.before.before.before.before.before.before.args.line.now)
 
 returns : tie.Need-returns
 returns c = put_as (made c.before.before.before.before.before.before.before) (put_then c.before.before.before.before.before.before.put-mode.ensures c.before.before.put-buffer.ensures)

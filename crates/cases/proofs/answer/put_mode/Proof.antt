@@ -4,7 +4,7 @@ use mathlib.Core.Path.{◌≡◌}
 use native.Mathlib.Omega.{arith}
 use borrow.Author.Rules.{rules}
 use Rattle.writing.proofs.Puts.{put_then, put-length, put_as}
-use Rattle.cases.specs.Answer.{valueText, modeText}
+use Rattle.cases.specs.Answer.{value_text, mode_text}
 use Rattle.cases.proofs.answer.put_mode.Statement.{statement}
 use Rattle.cases.proofs.answer.put_mode.Tie as tie
 
@@ -19,12 +19,12 @@ put-value-requires-3 c κs =
 
 -- the three values are those of the definition
 made : (c : tie.After-mode-of)
-    → valueText c.before.mixed-value.result ++ (valueText c.Mode-of.result.key ++ valueText c.Mode-of.result.value)
-    ≡ modeText c.before.before.before.args.algorithm c.before.before.before.args.ck c.before.before.before.args.iv
-unfolding modeText
+    → value_text c.before.mixed-value.result ++ (value_text c.Mode-of.result.key ++ value_text c.Mode-of.result.value)
+    ≡ mode_text c.before.before.before.args.algorithm c.before.before.before.args.ck c.before.before.before.args.iv
+unfolding mode_text
 made c =
     let mode = c.Mode-of.ensures in
-    λ i. valueText (c.before.mixed-value.ensures i) ++ (valueText (mode i).key ++ valueText (mode i).value)
+    λ i. value_text (c.before.mixed-value.ensures i) ++ (value_text (mode i).key ++ value_text (mode i).value)
 
 returns : tie.Need-returns
 returns c =

@@ -5,15 +5,15 @@ use lib.ListN.{length}
 use borrow.Author.Rules.{rules}
 use Rattle.writing.specs.Writing.{Room}
 use Rattle.writing.proofs.Puts.{put_then, put-length, room-first, room-then}
-use Rattle.cases.specs.Answer.{valueText}
+use Rattle.cases.specs.Answer.{value_text}
 use Rattle.cases.proofs.Texts.{value-length}
 use Rattle.cases.proofs.answer.put_value.Statement.{statement}
 use Rattle.cases.proofs.answer.put_value.Tie as tie
 
-long : (c : tie.Start) → length (valueText c.args.t3) ≡ 49
+long : (c : tie.Start) → length (value_text c.args.t3) ≡ 49
 long c = value-length c.args.t3 c.well-formed.1.1.0.1.0.1
 
-room : (c : tie.Start) → Room c.args.out.now c.args.at (valueText c.args.t3)
+room : (c : tie.Start) → Room c.args.out.now c.args.at (value_text c.args.t3)
 room c = record { fits = omega (arith, long c, c.requires) }
 
 put-hex-requires : tie.Need-put-hex-requires

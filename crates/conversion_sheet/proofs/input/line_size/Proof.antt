@@ -4,13 +4,13 @@ use Prim.Native.Nat.{◌+◌, ◌-◌, ◌≤◌}
 use native.Mathlib.Omega.{arith}
 use borrow.Author.Rules.{rules}
 use lib.ListN.{length, drop}
-use Rattle.conversion_sheet.specs.Input.{lineSize}
+use Rattle.conversion_sheet.specs.Input.{line_size}
 use Rattle.conversion_sheet.proofs.Inputs.{line-here, line-later, line-end}
 use Rattle.conversion_sheet.proofs.input.line_size.Statement.{statement}
 use Rattle.conversion_sheet.proofs.input.line_size.Tie as tie
 
 abbrev invariant-loop : tie.invariant-loop
-invariant-loop s i₀ i = (i ≤ length s) × (lineSize s ≡ i + lineSize (drop i s))
+invariant-loop s i₀ i = (i ≤ length s) × (line_size s ≡ i + line_size (drop i s))
 
 abbrev decreases-loop : tie.decreases-loop
 decreases-loop s i₀ i = length s - i

@@ -6,12 +6,12 @@ use Rattle.forms.specs.Form.{line}
 use Rattle.forms.specs.Decimals.{decimal}
 use Rattle.reading.specs.declared.Reading.{Reading}
 use Rattle.reading.specs.Reading.{onward, answer}
-use Rattle.conversion_sheet.specs.Input.{afterRead, named_by}
+use Rattle.conversion_sheet.specs.Input.{after_read, named_by}
 use Rattle.conversion_sheet.proofs.input.named_by.Statement.{statement}
 use Rattle.conversion_sheet.proofs.input.named_by.Tie as tie
 
-after_is : (c : tie.After-read-line) → c.read-line.result ≡ afterRead c.before.before.before.before.args.s.now
-unfolding afterRead
+after_is : (c : tie.After-read-line) → c.read-line.result ≡ after_read c.before.before.before.before.args.s.now
+unfolding after_read
 after_is c =
     c.read-line.ensures
     ∙ ap (λ (r : Reading). answer (onward r (line "after=" (decimal 1 32)) c.before.before.before.before.args.s.now)) c.before.before.read-before.ensures

@@ -8,7 +8,7 @@ use borrow.Author.Rules.{rules}
 use lib.ListN.{length, take, drop, length-drop}
 use lib.Seq.{take_all}
 use Rattle.conversion_sheet.specs.declared.input.Named.{Named}
-use Rattle.conversion_sheet.specs.Input.{named_by, lineSize}
+use Rattle.conversion_sheet.specs.Input.{named_by, line_size}
 use Rattle.conversion_sheet.proofs.Inputs.{line-some}
 use Rattle.conversion_sheet.proofs.Numbers.{Going, going-none, going_more, going_end}
 use Rattle.conversion_sheet.proofs.input.read_pairs.Statement.{statement}
@@ -49,8 +49,8 @@ module _ (c : tie.After-line-size invariant-loop decreases-loop) where
   named-is : named.Named-by.result ≡ named_by (drop here.loop.at s)
   named-is = named.Named-by.ensures ∙ ap named_by whole
 
-  size_is : c.line-size.result ≡ lineSize (drop here.loop.at s)
-  size_is = c.line-size.ensures.0 ∙ ap lineSize whole
+  size_is : c.line-size.result ≡ line_size (drop here.loop.at s)
+  size_is = c.line-size.ensures.0 ∙ ap line_size whole
 
 loop-again : tie.Need-loop-preserved invariant-loop decreases-loop
 loop-again c =

@@ -7,13 +7,13 @@ use native.Mathlib.Omega.{arith}
 use borrow.Author.Rules.{rules}
 use borrow.Author.Tests.{eqb-true}
 use lib.ListN.{length, drop}
-use Rattle.conversion_sheet.specs.Input.{beforeEmpty}
+use Rattle.conversion_sheet.specs.Input.{before_empty}
 use Rattle.conversion_sheet.proofs.Inputs.{empty-here, empty-later, empty-end}
 use Rattle.conversion_sheet.proofs.input.text_size.Statement.{statement}
 use Rattle.conversion_sheet.proofs.input.text_size.Tie as tie
 
 abbrev invariant-loop : tie.invariant-loop
-invariant-loop s starts₀ i₀ starts i = (i ≤ length s) × (beforeEmpty true s ≡ i + beforeEmpty starts (drop i s))
+invariant-loop s starts₀ i₀ starts i = (i ≤ length s) × (before_empty true s ≡ i + before_empty starts (drop i s))
 
 abbrev decreases-loop : tie.decreases-loop
 decreases-loop s starts₀ i₀ starts i = length s - i

@@ -1,8 +1,8 @@
 -- `inverse::steps::inv_byte_sub`: cell by cell. Assumes nothing.
 use Prim.Native.Nat.{◌-◌}
 use borrow.Author.Rules.{rules}
-use Rattle.inv_bytes.specs.Bytes.{invSBox}
-use Rattle.inv_parts.specs.Steps.{invByteSub}
+use Rattle.inv_bytes.specs.Bytes.{inv_s_box}
+use Rattle.inv_parts.specs.Steps.{inv_byte_sub}
 use Rattle.laws.proofs.States.{state-shape}
 use Rattle.laws.proofs.InRows.{InRow, InRows, in-rows-none, in-row-none, in-row-more, in-rows-more, in-rows-all}
 use Rattle.laws.specs.Lists.{cell}
@@ -10,11 +10,11 @@ use Rattle.inverse.proofs.steps.inv_byte_sub.Statement.{statement}
 use Rattle.inverse.proofs.steps.inv_byte_sub.Tie as tie
 
 pub inv-byte-sub-spec : {M : Type 1} → statement M
-unfolding invByteSub
+unfolding inv_byte_sub
 inv-byte-sub-spec =
     tie.close
     (tie.spec
-    (λ tab s t₀ r c₀ t c. InRow (λ r c. invSBox (cell s r c)) t r c) (λ tab s t₀ r c₀ t c. 8 - c) (λ tab s t₀ r₀ t r. InRows (λ r c. invSBox (cell s r c)) t r) (λ tab s t₀ r₀ t r. 4 - r)
+    (λ tab s t₀ r c₀ t c. InRow (λ r c. inv_s_box (cell s r c)) t r c) (λ tab s t₀ r c₀ t c. 8 - c) (λ tab s t₀ r₀ t r. InRows (λ r c. inv_s_box (cell s r c)) t r) (λ tab s t₀ r₀ t r. 4 - r)
     (λ c. in-rows-none (state-shape c.well-formed.0)) (λ c. in-row-none c.before.loop.invariant c.loop-test.true) (λ c. search rules) (λ c. search rules) (λ c. search rules) (λ c κs. search rules)
     (λ c. search rules) (λ c. search rules) (λ c. search rules) (λ c. search rules) (λ c. search rules)
     (λ c. in-row-more c.before.before.before.loop2.invariant c.before.before.loop2-test.true _ c.inv-substituted.ensures) (λ c. search rules) (λ c. search rules)

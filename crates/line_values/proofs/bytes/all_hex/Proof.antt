@@ -4,13 +4,13 @@ use Prim.Native.Nat.{◌-◌}
 use lib.ListN.{length, drop}
 use borrow.Author.Rules.{rules}
 use Rattle.forms.proofs.Hexes.{no_digit, a-digit}
-use Rattle.line_values.specs.Parts.{allHex}
+use Rattle.line_values.specs.Parts.{all_hex}
 use Rattle.line_values.proofs.Hexes.{all_end, all-no, all_yes}
 use Rattle.line_values.proofs.bytes.all_hex.Statement.{statement}
 use Rattle.line_values.proofs.bytes.all_hex.Tie as tie
 
 abbrev invariant-loop : tie.invariant-loop
-invariant-loop s i₀ i = allHex s ≡ allHex (drop i s)
+invariant-loop s i₀ i = all_hex s ≡ all_hex (drop i s)
 
 abbrev decreases-loop : tie.decreases-loop
 decreases-loop s i₀ i = length s - i

@@ -5,7 +5,7 @@ use lib.ListN.{length, get_or}
 use borrow.Author.Rules.{rules}
 use Rattle.laws.specs.Lists.{Filled}
 use Rattle.laws.proofs.Lists.{fill_none, fill_more, fill-all}
-use Rattle.forms.specs.Hexes.{hexValue}
+use Rattle.forms.specs.Hexes.{hex_value}
 use Rattle.line_values.specs.Parts.{bytes_of}
 use Rattle.line_values.proofs.Hexes.{even, digit_at}
 use Rattle.line_values.proofs.bytes.read_bytes.Statement.{statement}
@@ -13,7 +13,7 @@ use Rattle.line_values.proofs.bytes.read_bytes.Tie as tie
 
 abbrev invariant-loop : tie.invariant-loop
 invariant-loop s buf₀ n i₀ buf i =
-    Filled (λ k. hexValue (get_or s (2 * k) 0) * 16 + hexValue (get_or s (2 * k + 1) 0)) 0 (length s / 2) buf i
+    Filled (λ k. hex_value (get_or s (2 * k) 0) * 16 + hex_value (get_or s (2 * k + 1) 0)) 0 (length s / 2) buf i
 
 abbrev decreases-loop : tie.decreases-loop
 decreases-loop s buf₀ n i₀ buf i = n - i

@@ -7,15 +7,15 @@ use native.Mathlib.Omega.{arith}
 use lib.ListN.{length, get_or}
 use borrow.Author.Rules.{rules}
 use borrow.Author.Tests.{not-true, not-false}
-use Rattle.forms.specs.Decimals.{mayBegin, mayFollow}
+use Rattle.forms.specs.Decimals.{may_begin, may_follow}
 use Rattle.forms.proofs.Decimals.{begin-is, follow-is}
 use Rattle.line_values.specs.Parts.{largest, number_of}
-use Rattle.line_values.proofs.Digits.{numberFrom, number-no, number-digit, number-end, first-none, first-no, first-yes}
+use Rattle.line_values.proofs.Digits.{number_from, number-no, number-digit, number-end, first-none, first-no, first-yes}
 use Rattle.line_values.proofs.number.read_number.Statement.{statement}
 use Rattle.line_values.proofs.number.read_number.Tie as tie
 
 abbrev invariant-loop : tie.invariant-loop
-invariant-loop s first value₀ i₀ value i = (i ≤ length s) × (number_of s ≡ numberFrom value s i)
+invariant-loop s first value₀ i₀ value i = (i ≤ length s) × (number_of s ≡ number_from value s i)
 
 abbrev decreases-loop : tie.decreases-loop
 decreases-loop s first value₀ i₀ value i = length s - i
@@ -32,7 +32,7 @@ returns-2 c =
     c.no-number2.ensures
     ∙ sym (first-no rest.before.before.args.s.now (some rest) (sym c.before.before.may-begin.ensures ∙ not-true _ c.before.if2.true))
 
-begins : (c : tie.Else2 invariant-loop decreases-loop) → mayBegin 0 largest (get_or c.before.before.before.before.before.args.s.now 0 0) ≡ true
+begins : (c : tie.Else2 invariant-loop decreases-loop) → may_begin 0 largest (get_or c.before.before.before.before.before.args.s.now 0 0) ≡ true
 begins c = sym c.before.may-begin.ensures ∙ not-false _ c.if2.false
 
 sub-value : tie.Need-overflow-sub-value invariant-loop decreases-loop
@@ -59,7 +59,7 @@ returns-3 c =
 
 -- the byte may follow
 follows : (c : tie.Else3 invariant-loop decreases-loop) → let here = c.before.before.before.before in
-    mayFollow largest here.loop.value (get_or (text here) here.loop.i 0) ≡ true
+    may_follow largest here.loop.value (get_or (text here) here.loop.i 0) ≡ true
 follows c = sym c.before.may-follow.ensures ∙ not-false _ c.if3.false
 
 mul-value : tie.Need-overflow-mul-value invariant-loop decreases-loop

@@ -6,7 +6,7 @@ use borrow.Author.Rules.{rules}
 use borrow.Author.Tests.{not-true, not-false}
 use Rattle.writing.specs.Text.{ascii, lf}
 use Rattle.writing.proofs.Puts.{put_as, put-none, put_then, put-length, room_as, room-first, room-then}
-use Rattle.mending.specs.Changes.{changeText}
+use Rattle.mending.specs.Changes.{change_text}
 use Rattle.mending.proofs.Changed.{change-made, change-none}
 use Rattle.mending.proofs.changes.put_change.Statement.{statement}
 use Rattle.mending.proofs.changes.put_change.Tie as tie
@@ -14,14 +14,14 @@ use Rattle.mending.proofs.changes.put_change.Tie as tie
 returns : tie.Need-returns
 returns c =
     let args = c.before.before.before.args in
-    put_as (sym (ap (λ (t : Bool). changeText t args.name.now) (not-true _ c.if1.true) ∙ change-none args.name.now)) (put-none _ _)
+    put_as (sym (ap (λ (t : Bool). change_text t args.name.now) (not-true _ c.if1.true) ∙ change-none args.name.now)) (put-none _ _)
 
 -- a line is put
 is_made : (c : tie.Else1) → let args = c.before.before.before.args in
-    changeText args.made args.name.now ≡ ascii "changed=" ++ (args.name.now ++ (lf ∷ []))
+    change_text args.made args.name.now ≡ ascii "changed=" ++ (args.name.now ++ (lf ∷ []))
 is_made c =
     let args = c.before.before.before.args in
-    ap (λ (t : Bool). changeText t args.name.now) (not-false _ c.if1.false) ∙ change-made args.name.now
+    ap (λ (t : Bool). change_text t args.name.now) (not-false _ c.if1.false) ∙ change-made args.name.now
 
 put-bytes-requires : tie.Need-put-bytes-requires
 put-bytes-requires c κs =

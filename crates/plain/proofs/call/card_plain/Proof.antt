@@ -3,12 +3,12 @@ use mathlib.Core.Path.{◌≡◌, sym, ap, ◌∙◌}
 use native.Mathlib.Omega.{arith}
 use lib.ListN.{length}
 use borrow.Author.Rules.{rules}
-use Rattle.span.specs.Span.{written, streamBit}
+use Rattle.span.specs.Span.{written, stream_bit}
 use Rattle.tea.specs.Mode.{mode_of}
 use Rattle.tea.specs.Keystream.{block_of}
 use Rattle.tea.specs.declared.mode.Mode.{Mode}
 use Rattle.bench.proofs.Passed.{KeyedPassed, keyed-passed}
-use Rattle.plain.specs.Given.{givenRefusal}
+use Rattle.plain.specs.Given.{given_refusal}
 use Rattle.plain.proofs.Given.{given-refused, given-done}
 use Rattle.plain.proofs.call.card_plain.Statement.{statement}
 use Rattle.plain.proofs.call.card_plain.Tie as tie
@@ -16,7 +16,7 @@ use Rattle.plain.proofs.call.card_plain.Tie as tie
 abbrev start : tie.Else1 → tie.Start
 start e = e.before.before.before.before.before.before
 
-accepted : (e : tie.Else1) → givenRefusal (start e).args.algorithm (start e).args.key.now (start e).args.iv.now (start e).args.buf.now (start e).args.n (start e).args.skip ≡ 0
+accepted : (e : tie.Else1) → given_refusal (start e).args.algorithm (start e).args.key.now (start e).args.iv.now (start e).args.buf.now (start e).args.n (start e).args.skip ≡ 0
 accepted e = sym e.before.refusal-of.ensures ∙ e.if1.false
 
 passed : (e : tie.Else1) → KeyedPassed (length (start e).args.key.now) (length (start e).args.iv.now) (length (start e).args.buf.now) 0 (start e).args.n (start e).args.skip
@@ -48,7 +48,7 @@ returns-2 c =
     let yes = given-done a.algorithm a.key.now a.iv.now a.buf.now a.n a.skip (accepted e) in (
       sym (accepted e),
       ran.write-blocks.ensures.0
-          ∙ ap (λ (m : Mode). written a.buf.now (streamBit (block_of m)) 0 a.skip a.n)
+          ∙ ap (λ (m : Mode). written a.buf.now (stream_bit (block_of m)) 0 a.skip a.n)
           (mode.Mode-of.ensures ∙ (λ i. mode_of a.algorithm (key.key_of.ensures i) (iv.iv-of.ensures i)))
           ∙ sym yes.0,
       ran.write-blocks.ensures.1 ∙ sym yes.1,

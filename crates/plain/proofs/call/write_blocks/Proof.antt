@@ -3,7 +3,7 @@ use mathlib.Core.List.{List}
 use mathlib.Core.Path.{ap, ◌∙◌}
 use Prim.Native.Nat.{ℕ}
 use borrow.Author.Rules.{rules}
-use Rattle.span.specs.Span.{xored, streamBit}
+use Rattle.span.specs.Span.{xored, stream_bit}
 use Rattle.span.proofs.Laws.{xored-cleared}
 use Rattle.tea.specs.Keystream.{block_of}
 use Rattle.plain.proofs.call.write_blocks.Statement.{statement}
@@ -14,7 +14,7 @@ returns c =
     let ran = c.before.before in
     let front = ran.before.before.before.before in
     let a = front.before.before.before.args in
-    let k = streamBit (block_of a.mode) in (
+    let k = stream_bit (block_of a.mode) in (
       ran.xor-blocks.ensures.0
           ∙ ap (λ (l : List ℕ). xored l k 0 a.skip a.n) front.clear-front.ensures
           ∙ xored-cleared a.buf.now k 0 a.skip a.n,

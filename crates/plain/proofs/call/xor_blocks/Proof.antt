@@ -6,8 +6,8 @@ use native.Mathlib.Omega.{arith}
 use borrow.Author.Rules.{rules}
 use lib.ListN.{length}
 use Rattle.laws.specs.Bits.{bit_at}
-use Rattle.span.specs.Span.{streamBit, xored}
-use Rattle.block_counts.specs.Counts.{blocksUsed}
+use Rattle.span.specs.Span.{stream_bit, xored}
+use Rattle.block_counts.specs.Counts.{blocks_used}
 use Rattle.block_counts.proofs.Blocks.{used-none}
 use Rattle.span.proofs.Laws.{xored-none, length-xored}
 use Rattle.span.proofs.Stream.{xored-stretch}
@@ -18,9 +18,9 @@ use Rattle.plain.proofs.call.xor_blocks.Tie as tie
 
 abbrev invariant-loop : tie.invariant-loop
 invariant-loop buf₀ n skip mode made₀ done₀ buf made done =
-    (done ≤ n) × (length buf ≡ length buf₀) × (buf ≡ xored buf₀ (streamBit (block_of mode)) 0 skip done)
+    (done ≤ n) × (length buf ≡ length buf₀) × (buf ≡ xored buf₀ (stream_bit (block_of mode)) 0 skip done)
     × (made ≤ done)
-    × (made ≡ blocksUsed skip done)
+    × (made ≡ blocks_used skip done)
     × (0 < done → done < n → (skip + done) % 256 ≡ 0)
 
 abbrev decreases-loop : tie.decreases-loop

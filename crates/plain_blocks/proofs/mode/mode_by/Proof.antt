@@ -5,22 +5,22 @@ use Prim.Native.Nat.{ℕ, ◌+◌, ◌/◌, ◌%◌, ◌-◌, ◌<◌}
 use borrow.Author.Rules.{rules}
 use lib.ListN.{get_or}
 use Rattle.laws.proofs.Lists.{tabulate-at}
-use Rattle.tea.specs.Mixing.{expandedByte, mixedValue}
+use Rattle.tea.specs.Mixing.{expanded_byte, mixed_value}
 use Rattle.tea.specs.Mode.{combined}
 use Rattle.tea.proofs.Halves.{Halves, halves-none, halves-more, halves-all}
 use Rattle.plain_blocks.proofs.mode.mode_by.Statement.{statement}
 use Rattle.plain_blocks.proofs.mode.mode_by.Tie as tie
 
 abbrev invariant-loop : tie.invariant-loop
-invariant-loop f digit iv ck ckm₀ ivm₀ k₀ ckm ivm k = Halves f ck (mixedValue iv) ckm ivm k
+invariant-loop f digit iv ck ckm₀ ivm₀ k₀ ckm ivm k = Halves f ck (mixed_value iv) ckm ivm k
 
 abbrev decreases-loop : tie.decreases-loop
 decreases-loop f digit iv ck ckm₀ ivm₀ k₀ ckm ivm k = 24 - k
 
 -- byte k of the mixed value
-mixed-at : (iv : List ℕ) (k : ℕ) → k < 24 → expandedByte iv (20 + k) ≡ get_or (mixedValue iv) k 0
-unfolding mixedValue
-mixed-at iv k h = sym (tabulate-at (λ j. expandedByte iv (20 + j)) 0 refl k h)
+mixed-at : (iv : List ℕ) (k : ℕ) → k < 24 → expanded_byte iv (20 + k) ≡ get_or (mixed_value iv) k 0
+unfolding mixed_value
+mixed-at iv k h = sym (tabulate-at (λ j. expanded_byte iv (20 + j)) 0 refl k h)
 
 loop-again : tie.Need-loop-preserved invariant-loop decreases-loop
 loop-again c =
@@ -30,7 +30,7 @@ loop-again c =
     let a = at.before.args in
     let k = at.loop.k in
     let h : k < 24 = asked.before.loop-test.true in
-    let v : asked.byte.result ≡ get_or (mixedValue a.iv) k 0 = asked.byte.ensures ∙ mixed-at a.iv k h in
+    let v : asked.byte.result ≡ get_or (mixed_value a.iv) k 0 = asked.byte.ensures ∙ mixed-at a.iv k h in
     halves-more at.loop.invariant h _ _ _ _
     (low.before.first.ensures ∙ ap (λ (m : ℕ). combined a.f.now (get_or a.t3 k 0 / 16) (m / 16)) v)
     (low.second.ensures ∙ ap (λ (m : ℕ). combined a.f.now (get_or a.t3 k 0 % 16) (m % 16)) v)

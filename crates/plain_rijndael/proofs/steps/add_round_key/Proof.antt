@@ -7,7 +7,7 @@ use borrow.Author.Rules.{rules}
 use lib.Bits.{bit_xor}
 use lib.ListN.{get_or}
 use Rattle.words.specs.Words.{byte_of}
-use Rattle.round_steps.specs.Steps.{addRoundKey}
+use Rattle.round_steps.specs.Steps.{add_round_key}
 use Rattle.laws.proofs.States.{state-shape}
 use Rattle.laws.proofs.InRows.{InRow, InRows, in-rows-none, in-row-none, in-row-more, in-rows-more, in-rows-all}
 use Rattle.laws.specs.Lists.{cell}
@@ -30,7 +30,7 @@ stored c =
     in-row-more at.loop2.invariant l _ (ap (bit_xor (cell a.t1 r at.loop2.c)) (word_byte a.t2 small (8 * a.n + at.loop2.c) r h at.loop2.invariant.0))
 
 pub add-round-key-spec : {M : Type 1} → statement M
-unfolding addRoundKey
+unfolding add_round_key
 add-round-key-spec =
     tie.close
     (tie.spec

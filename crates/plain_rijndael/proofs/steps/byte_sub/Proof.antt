@@ -2,8 +2,8 @@
 use mathlib.Core.List.{List}
 use Prim.Native.Nat.{ℕ, ◌-◌}
 use borrow.Author.Rules.{rules}
-use Rattle.gf256.specs.Field.{sBox}
-use Rattle.round_steps.specs.Steps.{byteSub}
+use Rattle.gf256.specs.Field.{s_box}
+use Rattle.round_steps.specs.Steps.{byte_sub}
 use Rattle.laws.proofs.States.{state-shape}
 use Rattle.laws.proofs.InRows.{InRow, InRows, in-rows-none, in-row-none, in-row-more, in-rows-more, in-rows-all}
 use Rattle.laws.specs.Lists.{cell}
@@ -11,10 +11,10 @@ use Rattle.plain_rijndael.proofs.steps.byte_sub.Statement.{statement}
 use Rattle.plain_rijndael.proofs.steps.byte_sub.Tie as tie
 
 abbrev subbed : List (List ℕ) → ℕ → ℕ → ℕ
-subbed s r c = sBox (cell s r c)
+subbed s r c = s_box (cell s r c)
 
 pub byte-sub-spec : {M : Type 1} → statement M
-unfolding byteSub
+unfolding byte_sub
 byte-sub-spec =
     tie.close
     (tie.spec

@@ -2,7 +2,7 @@
 use mathlib.Core.List.{List}
 use Prim.Native.Nat.{ℕ, ◌+◌, ◌-◌, ◌%◌}
 use borrow.Author.Rules.{rules}
-use Rattle.round_steps.specs.Steps.{mixedByte, mixColumn}
+use Rattle.round_steps.specs.Steps.{mixed_byte, mix_column}
 use Rattle.laws.proofs.States.{state-shape}
 use Rattle.laws.proofs.InRows.{InRow, InRows, in-rows-none, in-row-none, in-row-more, in-rows-more, in-rows-all}
 use Rattle.laws.specs.Lists.{cell}
@@ -10,7 +10,7 @@ use Rattle.plain_rijndael.proofs.steps.mix_column.Statement.{statement}
 use Rattle.plain_rijndael.proofs.steps.mix_column.Tie as tie
 
 abbrev mixed : List (List ℕ) → ℕ → ℕ → ℕ
-mixed s r c = mixedByte (cell s r c) (cell s ((r + 1) % 4) c) (cell s ((r + 2) % 4) c) (cell s ((r + 3) % 4) c)
+mixed s r c = mixed_byte (cell s r c) (cell s ((r + 1) % 4) c) (cell s ((r + 2) % 4) c) (cell s ((r + 3) % 4) c)
 
 stored : tie.Need-loop2-preserved (λ s t₀ r c₀ t c. InRow (mixed s) t r c) (λ s t₀ r c₀ t c. 8 - c) (λ s t₀ r₀ t r. InRows (mixed s) t r) (λ s t₀ r₀ t r. 4 - r)
 stored c =
@@ -18,7 +18,7 @@ stored c =
     in-row-more entered.before.loop2.invariant entered.loop2-test.true _ c.mixed-byte.ensures
 
 pub mix-column-spec : {M : Type 1} → statement M
-unfolding mixColumn
+unfolding mix_column
 mix-column-spec =
     tie.close
     (tie.spec

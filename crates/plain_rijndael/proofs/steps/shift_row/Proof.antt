@@ -7,7 +7,7 @@ use borrow.Author.Rules.{rules}
 use borrow.Author.Tests.{ltb-true}
 use lib.Dec.{ltb}
 use Rattle.laws.proofs.Tests.{holds}
-use Rattle.round_steps.specs.Steps.{shift_of, shiftRow}
+use Rattle.round_steps.specs.Steps.{shift_of, shift_row}
 use Rattle.laws.proofs.States.{state-shape}
 use Rattle.laws.proofs.InRows.{InRow, InRows, in-rows-none, in-row-none, in-row-more, in-rows-more, in-rows-all}
 use Rattle.laws.specs.Lists.{cell}
@@ -39,7 +39,7 @@ stored c =
     (ap (λ (n : ℕ). cell at.before.before.before.args.t1 at.before.before.loop.r ((at.loop2.c + n) % 8)) c.before.Shift-of.ensures)
 
 pub shift-row-spec : {M : Type 1} → statement M
-unfolding shiftRow
+unfolding shift_row
 shift-row-spec =
     tie.close
     (tie.spec

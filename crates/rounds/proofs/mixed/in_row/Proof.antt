@@ -5,7 +5,7 @@ use native.Mathlib.Omega.{arith}
 use borrow.Author.Rules.{rules}
 use lib.ListN.{get_or}
 use Rattle.laws.proofs.Lists.{tabulate-at}
-use Rattle.gf256.specs.Field.{sBox}
+use Rattle.gf256.specs.Field.{s_box}
 use Rattle.words.specs.Words.{join}
 use Rattle.products.specs.Products.{share, products}
 use Rattle.products.proofs.Table.{share-at}
@@ -21,8 +21,8 @@ returns c =
     let table = start.requires.1 in
     let low : r < 4 = start.requires.0 in
     let byte : b < 256 = search rules in
-    let entry : (k i : ℕ) → k < 8 → i ≡ 8 * b + k → get_or start.args.mixes.now i 0 ≡ share (sBox b) k =
-    λ k i h e. tabulate-at (λ i. share (sBox (i / 8)) (i % 8)) 0 table i (omega arith) ∙ share-at b k i h e in
+    let entry : (k i : ℕ) → k < 8 → i ≡ 8 * b + k → get_or start.args.mixes.now i 0 ≡ share (s_box b) k =
+    λ k i h e. tabulate-at (λ i. share (s_box (i / 8)) (i % 8)) 0 table i (omega arith) ∙ share-at b k i h e in
     c.join-bytes.ensures
     ∙ (λ j.
     join

@@ -4,7 +4,7 @@ use borrow.Author.Rules.{rules}
 use lib.ListN.{get_or}
 use Rattle.laws.proofs.States.{Columns, columns-none, columns-more, columns-all, zero-shape}
 use Rattle.words.specs.Words.{byte_of}
-use Rattle.rounds.specs.Columns.{ofWords}
+use Rattle.rounds.specs.Columns.{of_words}
 use Rattle.rounds.proofs.packing.from_words.Statement.{statement}
 use Rattle.rounds.proofs.packing.from_words.Tie as tie
 
@@ -24,7 +24,7 @@ loop-again c =
     c.before.before.before.byte0.ensures c.before.before.byte1.ensures c.before.byte2.ensures c.byte3.ensures
 
 returns : tie.Need-returns invariant-loop decreases-loop
-unfolding ofWords
+unfolding of_words
 returns c = columns-all c.before.loop.invariant c.loop-test.false
 
 pub from-words-spec : {M : Type 1} → statement M

@@ -7,13 +7,13 @@ use native.Mathlib.Omega.{arith}
 use borrow.Author.Rules.{rules}
 use lib.ListN.{drop}
 use Rattle.laws.specs.Choice.{pick}
-use Rattle.sheet.specs.Sheet.{filledCount}
+use Rattle.sheet.specs.Sheet.{filled_count}
 use Rattle.sheet.proofs.Lines.{count_next, count_none}
 use Rattle.sheet.proofs.listing.count_filled.Statement.{statement}
 use Rattle.sheet.proofs.listing.count_filled.Tie as tie
 
 abbrev invariant-loop : tie.invariant-loop
-invariant-loop table count₀ i₀ count i = (i ≤ 32) × (count ≤ i) × (count + filledCount (drop i table) ≡ filledCount table)
+invariant-loop table count₀ i₀ count i = (i ≤ 32) × (count ≤ i) × (count + filled_count (drop i table) ≡ filled_count table)
 
 abbrev decreases-loop : tie.decreases-loop
 decreases-loop table count₀ i₀ count i = 32 - i
@@ -25,7 +25,7 @@ loop-again c =
     let table = loop.before.args.t1 in
     let i = loop.loop.i in
     let next = count_next table i (search rules) in
-    let more : Bool → ℕ = λ t. pick t 1 0 + filledCount (drop (i + 1) table) in
+    let more : Bool → ℕ = λ t. pick t 1 0 + filled_count (drop (i + 1) table) in
     ⊎_elim
     (λ w. let e = next ∙ ap more (sym test.is-filled.ensures ∙ w.0.taken) in (omega arith, omega (arith, w.1), omega (arith, w.1)))
     (λ w. let e = next ∙ ap more (sym test.is-filled.ensures ∙ w.0.left) in (omega arith, omega (arith, w.1), omega (arith, w.1)))

@@ -5,13 +5,13 @@ use borrow.Author.Rules.{rules}
 use lib.ListN.{length}
 use Rattle.laws.specs.Lists.{Filled}
 use Rattle.laws.proofs.Lists.{fill_none, fill_more, fill-to}
-use Rattle.tea.specs.Mixing.{expandedByte}
+use Rattle.tea.specs.Mixing.{expanded_byte}
 use Rattle.tea.proofs.MixingRule.{byte-first}
 use Rattle.tea.proofs.mixing.first_bytes.Statement.{statement}
 use Rattle.tea.proofs.mixing.first_bytes.Tie as tie
 
 abbrev invariant-loop : tie.invariant-loop
-invariant-loop iv b₀ i₀ b i = (i ≤ 10) × Filled (expandedByte iv) 0 44 b i
+invariant-loop iv b₀ i₀ b i = (i ≤ 10) × Filled (expanded_byte iv) 0 44 b i
 
 abbrev decreases-loop : tie.decreases-loop
 decreases-loop iv b₀ i₀ b i = 10 - i

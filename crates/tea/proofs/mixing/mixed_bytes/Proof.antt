@@ -9,14 +9,14 @@ use lib.Dec.{lit<}
 use lib.ListN.{length, get_or, set, length-set}
 use Rattle.laws.specs.Lists.{Filled}
 use Rattle.laws.proofs.Lists.{fill-all}
-use Rattle.tea.specs.Mixing.{expandedByte}
+use Rattle.tea.specs.Mixing.{expanded_byte}
 use Rattle.tea.proofs.MixingRule.{byte-same, byte_more, last-is, two-are}
 use Rattle.tea.proofs.mixing.mixed_bytes.Statement.{statement}
 use Rattle.tea.proofs.mixing.mixed_bytes.Tie as tie
 
 abbrev invariant-loop : tie.invariant-loop
 invariant-loop b₀ last₀ two₀ i₀ b last two i =
-    ((10 ≤ i) × (i ≤ 44)) × ((length b ≡ 44) × ((last ≡ get_or b (i - 1) 0) × ((two ≡ bit_xor (get_or b (i - 10) 0) (get_or b (i - 9) 0)) × ((iv : List ℕ) → length iv ≡ 10 → Filled (expandedByte iv) 0 44 b₀ 10 → Filled (expandedByte iv) 0 44 b i))))
+    ((10 ≤ i) × (i ≤ 44)) × ((length b ≡ 44) × ((last ≡ get_or b (i - 1) 0) × ((two ≡ bit_xor (get_or b (i - 10) 0) (get_or b (i - 9) 0)) × ((iv : List ℕ) → length iv ≡ 10 → Filled (expanded_byte iv) 0 44 b₀ 10 → Filled (expanded_byte iv) 0 44 b i))))
 
 abbrev decreases-loop : tie.decreases-loop
 decreases-loop b₀ last₀ two₀ i₀ b last two i = 44 - i

@@ -6,7 +6,7 @@ use borrow.Author.Rules.{rules}
 use lib.ListN.{get_or}
 use Rattle.laws.specs.Lists.{Filled}
 use Rattle.laws.proofs.Lists.{fill_none, fill_more, fill-are, tabulate-at}
-use Rattle.tea.specs.Mixing.{expandedByte, mixedValue}
+use Rattle.tea.specs.Mixing.{expanded_byte, mixed_value}
 use Rattle.tea.proofs.mixing.mixed_value.Statement.{statement}
 use Rattle.tea.proofs.mixing.mixed_value.Tie as tie
 
@@ -23,9 +23,9 @@ loop-again : tie.Need-loop-preserved invariant-loop decreases-loop
 loop-again c = fill_more c.before.loop.invariant c.loop-test.true _ refl
 
 returns : tie.Need-returns invariant-loop decreases-loop
-unfolding mixedValue
+unfolding mixed_value
 returns c =
-    fill-are c.before.loop.invariant c.loop-test.false (λ k h. tabulate-at (expandedByte _) 0 c.before.before.mixed-bytes.ensures (20 + k) (omega arith))
+    fill-are c.before.loop.invariant c.loop-test.false (λ k h. tabulate-at (expanded_byte _) 0 c.before.before.mixed-bytes.ensures (20 + k) (omega arith))
 
 pub mixed-value-spec : {M : Type 1} → statement M
 mixed-value-spec =
