@@ -1,4 +1,6 @@
 // When a record stands for another without a right more (document 02, [11]).
+#![tactic(auto)]
+
 ghost use Rattle.std.specs.Prelude.{◌≡◌};
 ghost use Rattle.agreement.specs.Agreement.{same_fields, same_key, agrees};
 

@@ -1,4 +1,6 @@
 // The bench call: keystream into a buffer, with no slot.
+#![tactic(auto)]
+
 ghost use Rattle.std.specs.Prelude.{◌≡◌, ◌*◌, ◌≤◌, length};
 ghost use Rattle.span.specs.Span.{longest_buffer, longest_stream, written};
 ghost use Rattle.block_counts.specs.Counts.{blocks_used};

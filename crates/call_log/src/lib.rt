@@ -1,4 +1,6 @@
 // A call log, read in one pass as it comes, a block at a time (document 02, [13]). What is read so far is a value; the figures lie in a lent array.
+#![tactic(auto)]
+
 mod part;
 
 ghost use Rattle.std.specs.Prelude.{◌≡◌};

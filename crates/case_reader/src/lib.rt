@@ -1,4 +1,6 @@
 // A case by its line: algorithm, key, initial value, start, length, skip and buffer.
+#![tactic(auto)]
+
 ghost use Rattle.std.specs.Prelude.{◌&&◌, ◌≡◌, ◌/◌, length};
 ghost use Rattle.lines.specs.Line.{part};
 ghost use Rattle.line_values.specs.Parts.{number_of, are_bytes};

@@ -1,4 +1,6 @@
 // What the program `vectors` prints: the answer to a case, which is a line of its input.
+#![tactic(auto)]
+
 mod answer;
 
 ghost use Rattle.std.specs.Prelude.{◌≡◌, ◌≤◌, length};

@@ -1,5 +1,7 @@
 // What the calls on a buffer share: refusals 5, 4 and 6, lent bytes as values, the step that xors keystream into a run of bits, and the form of
 // their reports.
+#![tactic(auto)]
+
 pub mod lent;
 pub mod span_refusals;
 pub mod xor;

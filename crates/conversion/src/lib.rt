@@ -1,4 +1,6 @@
 // Does somebody else's conversion of records give no right more? (document 02, [11]) Reads both texts, and loads nothing.
+#![tactic(auto)]
+
 ghost use Rattle.std.specs.Prelude.{◌≡◌};
 ghost use Rattle.conversion.specs.Conversion.{checked_as, names_checked, rights_checked, firstly, pairs_checked, conversion_checked};
 

@@ -1,5 +1,7 @@
 // The pairs of a conversion, and the faults of each (document 02, [11]): a flat list of before number, after number, and so on. One that is
 // missing counts as 0, which is no record's number.
+#![tactic(auto)]
+
 ghost use Rattle.std.specs.Prelude.{◌≡◌, ◌<◌, ◌≤◌};
 ghost use Rattle.conversion_pairs.specs.Pairs.{pair_count, number_on, named_on, is_there, misnames_on, misnames, differs, faulty, first_faulty, left_out, leaves_out};
 

@@ -1,4 +1,6 @@
 // What the program `converted` prints, from the bytes of its input (document 02, [11]).
+#![tactic(auto)]
+
 mod input;
 
 ghost use Rattle.std.specs.Prelude.{◌≡◌, ◌≤◌, length};

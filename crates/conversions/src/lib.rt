@@ -1,1 +1,2 @@
 // What the check of a conversion promises, of records and pairs alone. Theorems; no code.
+#![tactic(auto)]

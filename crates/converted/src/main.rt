@@ -1,5 +1,7 @@
 // Checks a conversion of records: reads before records, an empty line, after records, an empty line and the pairs from standard input, and writes
 // the number of pairs, or the refusal, to standard output. One byte more than the longest input is read, so that a longer one is seen.
+#![tactic(auto)]
+
 use libc::{STDIN_FILENO, STDOUT_FILENO};
 
 fn main() {

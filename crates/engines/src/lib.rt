@@ -1,4 +1,6 @@
 // The quick engine's answer to the call that the plain engine answers. proofs/Equal.antt says that the two are the same.
+#![tactic(auto)]
+
 ghost use Rattle.std.specs.Prelude.{◌≡◌, ◌+◌, ◌*◌, ◌≤◌, length};
 ghost use Rattle.span.specs.Span.{written};
 ghost use Rattle.block_counts.specs.Counts.{blocks_used};

@@ -1,4 +1,6 @@
 // What C gives and gets one by one, beside the values that the calls work on.
+#![tactic(auto)]
+
 ghost use Rattle.std.specs.Prelude.{◌≡◌};
 ghost use Rattle.slots.specs.Slots.{keyless};
 ghost use Rattle.slot_calls.specs.Calls.{shown_of};

@@ -1,4 +1,6 @@
 // The fields of a key, which may be shown, their ranges, and the refusals that load and record writing share.
+#![tactic(auto)]
+
 ghost use Rattle.std.specs.Prelude.{◌≡◌, true, ◌&&◌, leb};
 ghost use Rattle.fields.specs.Fields.{between, is_slot_number, is_algorithm, out_of_service, is_use, rights_refusal, all_in_range, stored_of};
 

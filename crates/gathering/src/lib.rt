@@ -1,4 +1,6 @@
 // A text of records, gathered by number and not loaded: a record of any algorithm is taken (document 02, [11]).
+#![tactic(auto)]
+
 ghost use Rattle.std.specs.Prelude.{◌≡◌, true};
 ghost use Rattle.gathering.specs.Gathering.{gathered_to, not_gathered, entered, gathered};
 ghost use Rattle.refusals.specs.Numbers.{done};

@@ -1,4 +1,5 @@
 // Bytes as elements of GF(2^8): M, the table of the S-box, to be lent, and doubling.
+#![tactic(auto)]
 
 ghost use Rattle.std.specs.Prelude.{◌≡◌};
 ghost use Rattle.gf256.specs.Field.{times, s_box, s_boxes};

@@ -1,4 +1,6 @@
 // Bytes of a text by two lower-case hex digits each.
+#![tactic(auto)]
+
 ghost use Rattle.std.specs.Prelude.{◌≡◌};
 ghost use Rattle.forms.specs.Hexes.{hex_or, half_byte, byte};
 ghost use Rattle.reading.specs.Reading.{onward, answer};

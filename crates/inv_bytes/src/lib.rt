@@ -1,4 +1,6 @@
 // Bytes through the inverse S-box, whose table is to be lent, and through the inverse column mixing.
+#![tactic(auto)]
+
 ghost use Rattle.std.specs.Prelude.{◌≡◌, ◌%◌, ◌<◌, eqb};
 ghost use Rattle.laws.specs.Choice.{pick};
 ghost use Rattle.gf256.specs.Field.{times};

@@ -1,4 +1,6 @@
 // Rows turned back, and the round keys of a schedule mixed back.
+#![tactic(auto)]
+
 ghost use Rattle.std.specs.Prelude.{◌≡◌, length, get_or};
 ghost use Rattle.laws.specs.Lists.{tabulate};
 ghost use Rattle.inv_parts.specs.Steps.{inv_shift_row};

@@ -1,4 +1,6 @@
 // The inverse of the block cipher, with its own schedule. No call of the card needs it: the theorems on repeated blocks do.
+#![tactic(auto)]
+
 pub mod inv_schedule;
 mod steps;
 

@@ -1,5 +1,7 @@
 // The keystream xored into runs of bits of a lent buffer, block by block: no call holds more than two blocks of it.
 // What a call makes is a value: `begin` alone fills a key schedule, `make` alone makes a block, and both count.
+#![tactic(auto)]
+
 ghost use Rattle.std.specs.Prelude.{◌≡◌, [], ◌+◌, ◌-◌, ◌*◌, ◌/◌, ◌%◌, ◌<◌, ◌≤◌, min, max, length, get_or, set};
 ghost use Rattle.laws.specs.Lists.{tabulate};
 ghost use Rattle.gf256.specs.Field.{s_boxes};

@@ -1,4 +1,6 @@
 // What is mended in a line of a damaged record sheet (document 02, [12]).
+#![tactic(auto)]
+
 ghost use Rattle.std.specs.Prelude.{◌&&◌, ◌≡◌, eqb, ltb};
 ghost use Rattle.line_parts.specs.Line.{value_in};
 ghost use Rattle.line_names.specs.Names.{key_name, number_in};

@@ -1,4 +1,6 @@
 // The names of a record's lines, by their numbers in the order of form 2.
+#![tactic(auto)]
+
 ghost use Rattle.std.specs.Prelude.{◌≡◌};
 ghost use Rattle.lines.specs.Line.{up_to};
 ghost use Rattle.line_parts.specs.Line.{equals};

@@ -1,5 +1,7 @@
 // The parts of a line of a damaged record sheet (document 02, [12]): its name and its value, without a CR at its end and without spaces
 // beside the `=`. A line comes without the LF that ends it.
+#![tactic(auto)]
+
 ghost use Rattle.std.specs.Prelude.{◌≡◌, ◌≤◌, length, take, drop};
 ghost use Rattle.line_parts.specs.Line.{ends_with, leading, trailing, bare, before_equals, after_equals, has_equals, name_in, value_in, is_spaced};
 

@@ -1,4 +1,5 @@
 // The lines of a text: the line and the column of a place, and a line's parts, which single spaces separate.
+#![tactic(auto)]
 
 ghost use Rattle.std.specs.Prelude.{◌≡◌, ◌≤◌, length};
 ghost use Rattle.lines.specs.Line.{index_of, piece_length, after_spaces, part, line_of, column_of};

@@ -1,4 +1,6 @@
 // A sheet's records, loaded into an empty table one after the other.
+#![tactic(auto)]
+
 ghost use Rattle.std.specs.Prelude.{◌≡◌};
 ghost use Rattle.loading.specs.Loading.{filled, refused, load_all};
 

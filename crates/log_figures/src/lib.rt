@@ -1,4 +1,6 @@
 // The figures that the calls of a log add up to, in a lent array (document 02, [13]).
+#![tactic(auto)]
+
 ghost use Rattle.std.specs.Prelude.{◌≡◌, ◌<◌, ◌≤◌, true};
 ghost use Rattle.logged_calls.specs.Log.{is_sound};
 ghost use Rattle.logged_calls.specs.Figures.{row_of, plus, into_row, added_accepted, added_refused, added};

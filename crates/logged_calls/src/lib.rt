@@ -1,4 +1,6 @@
 // The calls of a log (document 02, [13]), and which of them are sound.
+#![tactic(auto)]
+
 pub mod soundness;
 
 // What a line says.

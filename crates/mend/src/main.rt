@@ -1,4 +1,6 @@
 // Mends a damaged record sheet: reads it from standard input, and writes the mended record with its changes, or the refusal, to standard output.
+#![tactic(auto)]
+
 use libc::{STDIN_FILENO, STDOUT_FILENO};
 
 // One byte more than a sheet may have, so that a longer one is seen.

@@ -1,5 +1,7 @@
 // The mended text of a damaged record sheet (document 02, [12]): the ten lines of form 2, each with the value that the sheet has under its
 // name. Each writer puts a text into the buffer from a place on, and answers with the place at which it ends.
+#![tactic(auto)]
+
 ghost use Rattle.std.specs.Prelude.{[], ◌∷◌, ◌++◌, ◌≡◌};
 ghost use Rattle.writing.specs.Writing.{Room, Put};
 ghost use Rattle.line_parts.specs.Line.{equals};

@@ -1,4 +1,6 @@
 // A damaged record sheet is mended (document 02, [12]).
+#![tactic(auto)]
+
 mod changes;
 
 ghost use Rattle.std.specs.Prelude.{◌≡◌, ◌<◌, ◌≤◌, length};

@@ -1,1 +1,2 @@
 // Theorems on mending a damaged record sheet. No code.
+#![tactic(auto)]

@@ -1,4 +1,6 @@
 // The month sheet of a call log: reads the log from standard input, a block at a time, and writes its sheet, or the first line that is wrong, to standard output.
+#![tactic(auto)]
+
 use call_log::Month;
 use libc::{STDIN_FILENO, STDOUT_FILENO};
 

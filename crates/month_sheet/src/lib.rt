@@ -1,4 +1,6 @@
 // The month sheet as text (document 02, [13]). Each writer puts a text into the buffer from a place on, and answers with the place at which it ends.
+#![tactic(auto)]
+
 ghost use Rattle.std.specs.Prelude.{◌≡◌, [], ◌∷◌, ◌++◌, ◌+◌, ◌*◌, ◌/◌, ◌%◌, ◌<◌, ◌≤◌, length, get_or};
 ghost use Rattle.writing.specs.Text.{lf, digits};
 ghost use Rattle.writing.specs.Writing.{Room, Put};

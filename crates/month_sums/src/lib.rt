@@ -1,1 +1,2 @@
 // Theorems on the month sheet. No code.
+#![tactic(auto)]

@@ -1,4 +1,6 @@
 // The initial value mixed: clauses 5.2, 6.2, 7.2. No byte is kept: each asks for those that its rule names.
+#![tactic(auto)]
+
 ghost use Rattle.std.specs.Prelude.{◌≡◌, ◌-◌, ◌<◌, ◌≤◌};
 ghost use Rattle.gf256.specs.Field.{times};
 ghost use Rattle.tea.specs.Mixing.{expanded_byte};

@@ -1,4 +1,6 @@
 // Rijndael in the order of the proposal, on bytes: blocks of 256 bits, keys of 192 bits, 14 rounds. Nothing is looked up.
+#![tactic(auto)]
+
 mod steps;
 
 ghost use Rattle.std.specs.Prelude.{◌≡◌};

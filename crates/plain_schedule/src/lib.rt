@@ -1,4 +1,6 @@
 // The key schedule with six key words, each of four bytes: the proposal, 4.3.
+#![tactic(auto)]
+
 ghost use Rattle.std.specs.Prelude.{[], ◌≡◌, ◌<◌, ◌≤◌, ◌-◌, get_or};
 ghost use Rattle.std.specs.Int.Bits.{bit_xor};
 ghost use Rattle.laws.specs.Lists.{tabulate};

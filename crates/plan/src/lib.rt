@@ -1,4 +1,6 @@
 // Which bits of a direct mode PDU are ciphered, and by which keystream bits (document 01, "Plan of a direct mode PDU").
+#![tactic(auto)]
+
 ghost use Rattle.std.specs.Prelude.{◌≡◌, ◌+◌, ◌≤◌, ltb};
 ghost use Rattle.refusals.specs.Numbers.{done};
 ghost use Rattle.plan.specs.Plan.{address_bits, rest_from, address_from, clear_head, second_skip, longest_pdu, past_keystream, codes_unknown, parts_dont_fit, plan_refusal, with_pieces, refused_plan, planned_pieces, plan_of};

@@ -1,4 +1,6 @@
 // The table by which three steps of a round are one: what each byte adds to its mixed column.
+#![tactic(auto)]
+
 ghost use Rattle.std.specs.Prelude.{◌≡◌};
 ghost use Rattle.products.specs.Products.{products};
 

@@ -1,4 +1,6 @@
 // Readers of text: given bytes, decimal numbers, words, hex digits. Each goes on after what was read before it, and passes on a wrong place that was found there.
+#![tactic(auto)]
+
 ghost use Rattle.std.specs.Prelude.{◌≡◌, ◌≤◌};
 ghost use Rattle.forms.specs.Form.{done, read_at, literal, named};
 ghost use Rattle.forms.specs.Decimals.{is_digit, may_begin, may_follow, after, decimal};

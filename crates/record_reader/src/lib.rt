@@ -1,4 +1,6 @@
 // Key records read from text (document 01, "Key records"): one from the front of a text.
+#![tactic(auto)]
+
 ghost use Rattle.std.specs.Prelude.{◌≡◌, ◌≤◌, length};
 ghost use Rattle.laws.specs.Choice.{pick};
 ghost use Rattle.forms.specs.Form.{done, named};

@@ -1,4 +1,6 @@
 // The words of the uses. The algorithms' names are their own.
+#![tactic(auto)]
+
 ghost use Rattle.std.specs.Prelude.{◌≡◌};
 ghost use Rattle.record_text.specs.Text.{use_word};
 

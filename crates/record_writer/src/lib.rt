@@ -1,4 +1,6 @@
 // Key records written as text (document 01, "Key records"), at the front of a buffer.
+#![tactic(auto)]
+
 ghost use Rattle.std.specs.Prelude.{true, List, ◌≡◌, ℕ, ◌+◌, length};
 ghost use Rattle.fields.specs.Fields.{stored_of};
 ghost use Rattle.writing.specs.Text.{digits, hex_text, line_text};

@@ -1,4 +1,6 @@
 // The numbers that an engineer sees, under their names (document 01, "Numbers an engineer sees"). specs/Numbers.antt has the same.
+#![tactic(auto)]
+
 ghost use Rattle.std.specs.Prelude.{◌≡◌};
 ghost use Rattle.refusals.specs.Numbers as numbers;
 

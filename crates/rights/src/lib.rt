@@ -1,4 +1,6 @@
 // What a use allows, and what a move may make of it (document 01, "Slots and rights").
+#![tactic(auto)]
+
 ghost use Rattle.std.specs.Prelude.{◌≡◌};
 ghost use Rattle.rights.specs.Rights.{is_direction, includes, within, is_asked_use, moved_use, stays_within, may_move};
 

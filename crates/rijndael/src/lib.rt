@@ -1,4 +1,6 @@
 // Rijndael with blocks of 256 bits and keys of 192 bits: 14 rounds on a state of four rows by eight columns.
+#![tactic(auto)]
+
 ghost use Rattle.std.specs.Prelude.{◌≡◌, length};
 ghost use Rattle.gf256.specs.Field.{s_boxes};
 ghost use Rattle.products.specs.Products.{products};

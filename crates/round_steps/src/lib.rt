@@ -1,4 +1,6 @@
 // The steps of a round (the Rijndael proposal, 4.2), on a state of four rows by eight columns by value: loops over the columns.
+#![tactic(auto)]
+
 ghost use Rattle.std.specs.Prelude.{◌≡◌, ◌<◌, length};
 ghost use Rattle.gf256.specs.Field.{s_boxes};
 ghost use Rattle.round_steps.specs.Steps.{byte_sub, shift_row, add_round_key, final_round};

@@ -1,4 +1,6 @@
 // A round by the lent table of products (the Rijndael proposal, 5.2), and a state as words.
+#![tactic(auto)]
+
 mod mixed;
 pub mod packing;
 

@@ -1,4 +1,6 @@
 // The key schedule with six key words (the Rijndael proposal, 4.3.1): 120 words of 32 bits in a lent slice, six words a turn.
+#![tactic(auto)]
+
 ghost use Rattle.std.specs.Prelude.{◌≡◌, List, ℕ, ◌<◌, ◌≤◌, ◌+◌, ◌-◌, ◌*◌, length, get_or};
 ghost use Rattle.laws.specs.Lists.{tabulate, Filled};
 ghost use Rattle.gf256.specs.Field.{s_boxes};

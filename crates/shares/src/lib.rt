@@ -1,4 +1,6 @@
 // Shares as fractions in lowest terms.
+#![tactic(auto)]
+
 ghost use Rattle.std.specs.Prelude.{◌≡◌};
 ghost use Rattle.shares.specs.Share.{gcd, fraction_of, share_of};
 

@@ -1,4 +1,6 @@
 // What the program `slotlist` prints, from the bytes of its input (document 01, "Key records").
+#![tactic(auto)]
+
 mod listing;
 
 ghost use Rattle.std.specs.Prelude.{◌≡◌};

@@ -1,4 +1,6 @@
 // The lines of a damaged record sheet (document 02, [12]): which names they have, in which order, and when that is refused with 25.
+#![tactic(auto)]
+
 ghost use Rattle.std.specs.Prelude.{◌≡◌, ◌+◌, ◌<◌, ◌≤◌, eqb, length, drop};
 ghost use Rattle.laws.specs.Choice.{pick};
 ghost use Rattle.writing.specs.Text.{lf};

@@ -1,4 +1,6 @@
 // Load, move, clear and read: their refusals, in order (document 01, "Slots and rights").
+#![tactic(auto)]
+
 ghost use Rattle.std.specs.Prelude.{◌≡◌, eqb};
 ghost use Rattle.refusals.specs.Numbers.{done};
 ghost use Rattle.slots.specs.Slots.{keyless};

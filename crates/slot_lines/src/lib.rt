@@ -1,4 +1,6 @@
 // The lines of a listing's filled slots. Each writer puts a text into the buffer from a place on, and answers with the place at which it ends.
+#![tactic(auto)]
+
 ghost use Rattle.std.specs.Prelude.{true, ◌≡◌, ◌+◌, ◌*◌, ◌≤◌, length};
 ghost use Rattle.fields.specs.Fields.{all_in_range, asked_of};
 ghost use Rattle.writing.specs.Writing.{Room, Put};

@@ -1,5 +1,7 @@
 // The calls' view of a lent list of slot records: the slots are tested where they lie, what a slot shows is read for itself, and only the slot that is
 // asked for is copied with its key.
+#![tactic(auto)]
+
 ghost use Rattle.std.specs.Prelude.{◌≡◌, ◌||◌, not};
 ghost use Rattle.slots.specs.Slots.{is_filled, is_empty};
 ghost use Rattle.slot_list.specs.List.{is_no_table, place_of, fields_in, slot_in, place_to, put_in};

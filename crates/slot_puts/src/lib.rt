@@ -1,4 +1,6 @@
 // What load, move, clear and read make of a slot (document 01, "Slots and rights").
+#![tactic(auto)]
+
 ghost use Rattle.std.specs.Prelude.{◌≡◌, true};
 ghost use Rattle.refusals.specs.Numbers.{done};
 ghost use Rattle.slots.specs.Slots.{keyless};

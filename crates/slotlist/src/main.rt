@@ -1,4 +1,6 @@
 // Lists the keys of a sheet of records: reads up to 8,192 bytes from standard input, and writes the listing to standard output.
+#![tactic(auto)]
+
 use libc::{STDIN_FILENO, STDOUT_FILENO};
 
 fn main() {

@@ -1,4 +1,6 @@
 // The table of thirty-two key slots, by value: load, move, clear and read, and what a use allows.
+#![tactic(auto)]
+
 ghost use Rattle.std.specs.Prelude.{◌≡◌, true, ◌-◌, ◌<◌};
 ghost use Rattle.fields.specs.Fields.{is_slot_number, asked_of};
 ghost use Rattle.slots.specs.Slots.{no_fields, is_no_fields, all_zero, is_empty, is_filled, is_bad, has_bad, empty, keyless, empty_table, slot_at, with_slot};

@@ -1,5 +1,7 @@
 // Runs of bits in a buffer: a run of a block's bits xored in a byte at a time, and the front zeroed.
 // Bit 0 of a byte is its most significant.
+#![tactic(auto)]
+
 ghost use Rattle.std.specs.Prelude.{[], ◌∷◌, ◌≡◌, ◌<◌, ◌≤◌, ◌+◌, ◌-◌, ◌*◌, ◌/◌, ◌%◌, ◌^◌, length};
 ghost use Rattle.std.specs.Int.Bits.{bit_xor};
 ghost use Rattle.laws.specs.Bits.{bit_at, byte_of_bits};

@@ -1,4 +1,6 @@
 // Load, move, clear and read on a table by value (document 01, "Slots and rights").
+#![tactic(auto)]
+
 ghost use Rattle.std.specs.Prelude.{◌≡◌, true};
 ghost use Rattle.refusals.specs.Numbers.{done};
 ghost use Rattle.fields.specs.Fields.{is_slot_number};

@@ -1,4 +1,6 @@
 // Traffic with a slot's key, on any run of bits of a lent buffer.
+#![tactic(auto)]
+
 ghost use Rattle.std.specs.Prelude.{◌≡◌};
 ghost use Rattle.laws.specs.Bits.{bit_at};
 ghost use Rattle.slots.specs.Slots.{keyless};

@@ -1,4 +1,6 @@
 // The work of a traffic call that was judged, with a slot's key, on any run of bits of a lent buffer.
+#![tactic(auto)]
+
 ghost use Rattle.std.specs.Prelude.{◌≡◌};
 ghost use Rattle.ciphering.specs.Span.{schedules_for, ciphered_as};
 ghost use Rattle.traffic.specs.Traffic.{TrafficMay, traffic_after};

@@ -1,4 +1,6 @@
 // Answers cases: reads up to 262,144 bytes from standard input, a case a line, and writes a line for each to standard output.
+#![tactic(auto)]
+
 ghost use Rattle.std.specs.Prelude.{◌≤◌, length};
 ghost use Rattle.cases.specs.Answer.{answer_room};
 

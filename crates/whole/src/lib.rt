@@ -1,4 +1,6 @@
 // A whole PDU in one call: its plan, judged before a bit changes, and the slot whose key it needs.
+#![tactic(auto)]
+
 ghost use Rattle.std.specs.Prelude.{◌≡◌, length, not};
 ghost use Rattle.slots.specs.Slots.{keyless};
 ghost use Rattle.slot_calls.specs.Seen.{key_slot};

@@ -1,4 +1,6 @@
 // The work of a whole PDU that was judged, with a slot's key: every piece of its plan is ciphered, or no bit changes.
+#![tactic(auto)]
+
 ghost use Rattle.std.specs.Prelude.{◌≡◌, ◌≤◌, length};
 ghost use Rattle.span.specs.Span.{longest_buffer};
 ghost use Rattle.keystream.specs.Stream.{keystream};

@@ -1,4 +1,6 @@
 // Words of 32 bits and their four bytes, the first highest.
+#![tactic(auto)]
+
 ghost use Rattle.std.specs.Prelude.{◌≡◌};
 ghost use Rattle.words.specs.Words.{join, byte_of};
 

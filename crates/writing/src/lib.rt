@@ -1,4 +1,6 @@
 // Writers of text: given bytes, decimal and hex digits, lines. Each puts a text into the buffer from a place on, and answers with the place at which it ends.
+#![tactic(auto)]
+
 ghost use Rattle.std.specs.Prelude.{◌≡◌, [], ◌∷◌, ◌++◌, ◌<◌, length};
 ghost use Rattle.writing.specs.Text.{lf, digits, hex_digit, hex_text};
 ghost use Rattle.writing.specs.Writing.{Room, Put};
