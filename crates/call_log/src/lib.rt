@@ -17,7 +17,7 @@ const MOST_LINES: u64 = 65535;
 
 // How far a log is read: the line, counted from 1, and whether all is good so far; the part of the line, how far into it, its number so
 // far; and the four numbers before that one.
-#[derive(Drop)]
+#[derive(Clone, Copy)]
 pub struct Month {
     pub line: u64,
     pub good: bool,

@@ -7,7 +7,7 @@ pub mod span_refusals;
 pub mod xor;
 
 // What a call on a buffer reports beside it: the refusal, the blocks that it made, and the key schedules that it filled.
-#[derive(Drop)]
+#[derive(Clone, Copy)]
 pub struct Report {
     pub refusal: u8,
     pub blocks: usize,

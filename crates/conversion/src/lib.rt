@@ -12,7 +12,7 @@ use slots::Slot;
 const MOST_PAIRS: usize = 32;
 
 // The refusal, and the place of the pair that it names, counted from 1; 0 where it names none.
-#[derive(Drop)]
+#[derive(Clone, Copy)]
 pub struct Checked {
     pub refusal: u8,
     pub place: usize,

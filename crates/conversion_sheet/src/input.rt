@@ -85,7 +85,7 @@ fn read_before(s: &[u8]) -> Reading
 }
 
 // The numbers that a line of pairs names.
-#[derive(Drop)]
+#[derive(Clone, Copy)]
 struct Named {
     pub before: u64,
     pub after: u64,
@@ -124,7 +124,7 @@ fn line_size(s: &[u8]) -> usize
 }
 
 // How many numbers there are, and the numbers, with zeros behind them.
-#[derive(Drop)]
+#[derive(Clone, Copy)]
 pub struct Numbers {
     pub count: usize,
     pub numbers: [u64; 66],

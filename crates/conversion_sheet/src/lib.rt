@@ -20,7 +20,7 @@ pub const ROOM: usize = 64;
 pub const LONGEST_INPUT: usize = 16384;
 
 // A text and its length; the bytes behind it are zeros.
-#[derive(Drop)]
+#[derive(Clone, Copy)]
 pub struct Report {
     pub length: usize,
     pub text: [u8; 64],

@@ -8,7 +8,7 @@ use refusals::refuse;
 
 // As a slot holds them. Usage is 1 send, 2 receive, 3 both.
 #[repr(C)]
-#[derive(Drop)]
+#[derive(Clone, Copy)]
 pub struct Fields {
     pub version: u16,
     pub algorithm: u8,
@@ -20,7 +20,7 @@ pub struct Fields {
 }
 
 // As a caller gives them: wide, so that no number that an engineer can type is cut before it is refused.
-#[derive(Drop)]
+#[derive(Clone, Copy)]
 pub struct Asked {
     pub version: u16,
     pub algorithm: u64,

@@ -11,7 +11,7 @@ use slots::{Slot, empty_table, is_filled, with_slot};
 use table_calls::slot_or_empty;
 
 // Each record in the slot of its number; or, where a record does not read or repeats a number, an empty table.
-#[derive(Drop)]
+#[derive(Clone, Copy)]
 pub struct Gathered {
     pub good: bool,
     pub table: [Slot; 32],

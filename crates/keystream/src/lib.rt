@@ -16,7 +16,7 @@ ghost use Rattle.keystream.specs.Work.{begun, with_block, at_block, Held, Fits, 
 use tea::mode::Mode;
 
 // Buffer bits from `start` on, and keystream bits from `skip` on: n of each.
-#[derive(Drop)]
+#[derive(Clone, Copy)]
 pub struct Run {
     pub start: usize,
     pub n: usize,
@@ -24,14 +24,14 @@ pub struct Run {
 }
 
 // What a call has made: key schedules and blocks.
-#[derive(Drop)]
+#[derive(Clone, Copy)]
 pub struct Tally {
     pub schedules: usize,
     pub blocks: usize,
 }
 
 // The same on the way, with the number after the last block's.
-#[derive(Drop)]
+#[derive(Clone, Copy)]
 struct Work {
     schedules: usize,
     blocks: usize,

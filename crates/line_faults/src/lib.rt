@@ -12,7 +12,7 @@ use line_parts::{ends_with, front, is_spaced, leading, value_in};
 const CR: u8 = 13;
 
 // What a line may have that is mended.
-#[derive(Drop)]
+#[derive(Clone, Copy)]
 pub enum Fault {
     Crlf,
     Hex,

@@ -7,7 +7,7 @@ use reading::{may_begin, may_follow};
 const LARGEST: u64 = 18446744073709551615;
 
 // A number; or, of a text that is none, no number and 0.
-#[derive(Drop)]
+#[derive(Clone, Copy)]
 pub struct Number {
     pub good: bool,
     pub value: u64,

@@ -9,7 +9,7 @@ use slots::{Slot, asked, empty_table};
 use table_calls::load;
 
 // The table; or the refusal of a record, the record's place in the sheet counted from 1, line and column, with an empty table.
-#[derive(Drop)]
+#[derive(Clone, Copy)]
 pub struct Loaded {
     pub refusal: u8,
     pub position: usize,

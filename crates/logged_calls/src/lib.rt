@@ -4,7 +4,7 @@
 pub mod soundness;
 
 // What a line says.
-#[derive(Drop)]
+#[derive(Clone, Copy)]
 pub struct Call {
     pub slot: u64,
     pub direction: u64,

@@ -29,7 +29,7 @@ const SHEET_NAMES: u8 = 25;
 const SHEET_VALUE: u8 = 26;
 
 // Refusal and length of the mended sheet. A refusal has length 0.
-#[derive(Drop)]
+#[derive(Clone, Copy)]
 pub struct Mended {
     pub refusal: u8,
     pub length: usize,

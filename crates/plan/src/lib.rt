@@ -19,7 +19,7 @@ const ADDRESS_BITS: usize = 24;
 const KEYSTREAM_BITS: usize = 8288;
 
 // PDU bit start + i is ciphered by keystream bit skip + i, for i below length.
-#[derive(Drop)]
+#[derive(Clone, Copy)]
 pub struct Piece {
     pub start: usize,
     pub length: usize,
@@ -27,7 +27,7 @@ pub struct Piece {
 }
 
 // Up to two pieces, the first place filled first, or a refusal. A place without a piece holds zeros.
-#[derive(Drop)]
+#[derive(Clone, Copy)]
 pub struct Plan {
     pub refusal: u8,
     pub first: Piece,

@@ -8,7 +8,7 @@ ghost use Rattle.forms.specs.Words.{one_of};
 ghost use Rattle.reading.specs.Reading.{good_to, wrong_at, onward, answer, further};
 
 // What is read so far: the last value and the place after its text; or, once a byte is wrong, no value and the place of that byte.
-#[derive(Drop)]
+#[derive(Clone, Copy)]
 pub struct Reading {
     pub good: bool,
     pub value: u64,

@@ -17,7 +17,7 @@ use reading::{Reading, good_to, read_line, read_literal, read_one_of};
 use record_text::use_word;
 
 // A key and the place after it; or, once a byte is wrong, no key and the place of that byte.
-#[derive(Drop)]
+#[derive(Clone, Copy)]
 pub struct KeyReading {
     pub good: bool,
     pub key: [u8; 24],
@@ -74,7 +74,7 @@ fn read_key(s: &[u8], before: Reading) -> KeyReading
 }
 
 // A record and how many bytes it took; or refusal 15 with line and column of the first byte that is wrong, and zeros.
-#[derive(Drop)]
+#[derive(Clone, Copy)]
 pub struct RecordRead {
     pub refusal: u8,
     pub line: usize,

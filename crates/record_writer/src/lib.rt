@@ -24,7 +24,7 @@ fn put_key(buffer: &mut [u8], at: usize, key: [u8; 24]) -> usize
 }
 
 // Refusal and length of the text. A refusal has length 0.
-#[derive(Drop)]
+#[derive(Clone, Copy)]
 pub struct RecordWritten {
     pub refusal: u8,
     pub length: usize,

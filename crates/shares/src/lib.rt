@@ -5,7 +5,7 @@ ghost use Rattle.std.specs.Prelude.{◌≡◌};
 ghost use Rattle.shares.specs.Share.{gcd, fraction_of, share_of};
 
 // A fraction.
-#[derive(Drop)]
+#[derive(Clone, Copy)]
 pub struct Share {
     pub top: u64,
     pub bottom: u64,

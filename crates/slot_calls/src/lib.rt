@@ -15,14 +15,14 @@ use slots::Slot;
 pub const NO_SLOT: u64 = 0;
 
 // The answer to a call that changes the table.
-#[derive(Drop)]
+#[derive(Clone, Copy)]
 pub struct Changed {
     pub refusal: u8,
     pub table: [Slot; 32],
 }
 
 // The answer to a read.
-#[derive(Drop)]
+#[derive(Clone, Copy)]
 pub struct Shown {
     pub refusal: u8,
     pub number: u64,
@@ -30,7 +30,7 @@ pub struct Shown {
 }
 
 // The answer to a call that changes one slot: where it is not refused, the slot becomes this one.
-#[derive(Drop)]
+#[derive(Clone, Copy)]
 pub struct Put {
     pub refusal: u8,
     pub slot: Slot,

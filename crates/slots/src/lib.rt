@@ -9,7 +9,7 @@ use fields::{Asked, Fields};
 
 // What may be shown, and what may not.
 #[repr(C)]
-#[derive(Drop)]
+#[derive(Clone, Copy)]
 pub struct Slot {
     pub fields: Fields,
     pub key: [u8; 24],

@@ -6,7 +6,7 @@ use crate::mixing::mixed_value;
 use algorithms::{combining_table, digit};
 
 // What the blocks of one keystream are made of: CKM, IVM and the digit of the algorithm.
-#[derive(Drop)]
+#[derive(Clone, Copy)]
 pub struct Mode {
     pub key: [u8; 24],
     pub value: [u8; 24],

@@ -15,7 +15,7 @@ use traffic::{bit_at, use_refusal};
 const SYNC_ON_SCH_H: u64 = 2;
 
 // What a plan is made of, but for the flag: that stands in the PDU. Length, address and sdu are bits.
-#[derive(Drop)]
+#[derive(Clone, Copy)]
 pub struct Pdu {
     pub kind: u64,
     pub state: u64,
