@@ -1,0 +1,56 @@
+-- `bench::bench`: a refusal keeps the buffer; else the work's contracts say what it holds. Assumes nothing.
+use mathlib.Core.Path.{◌≡◌, sym, ◌∙◌}
+use native.Mathlib.Omega.{arith}
+use lib.ListN.{length}
+use borrow.Author.Rules.{rules}
+use borrow.Author.Tests.{eq-eqb, ne_eqb}
+use Rattle.span.specs.Span.{written}
+use Rattle.block_counts.specs.Counts.{blocks_used}
+use Rattle.block_counts.proofs.Blocks.{used_pos}
+use Rattle.keystream.specs.Stream.{keystream}
+use Rattle.bench.specs.Bench.{bench_refusal, benched, bench_blocks}
+use Rattle.ciphering.proofs.Answers.{ciphered-is}
+use Rattle.bench.proofs.Passed.{KeyedPassed, keyed-passed}
+use Rattle.bench.proofs.bench.Goals as goal
+
+abbrev start : goal.Else-refusal-ne-DONE → goal.Start
+start e = e
+
+accepted : (e : goal.Else-refusal-ne-DONE) → bench_refusal (start e).args.algorithm (start e).args.key.now (start e).args.iv.now (start e).args.buf.now (start e).args.n ≡ 0
+accepted e = sym e.bench_refusal-refusal.ensures ∙ e.if-refusal-ne-DONE.false
+
+passed : (e : goal.Else-refusal-ne-DONE) → KeyedPassed (length (start e).args.key.now) (length (start e).args.iv.now) (length (start e).args.buf.now) 0 (start e).args.n 0
+passed e = keyed-passed _ _ _ _ _ _ _ (accepted e)
+
+pub returns-then-refusal-ne-DONE : goal.returns-then-refusal-ne-DONE
+unfolding benched bench_blocks
+returns-then-refusal-ne-DONE c =
+    let e = c.bench_refusal-refusal.ensures in
+    let no = ne_eqb _ 0 (λ z. c.if-refusal-ne-DONE.true (e ∙ z)) in
+    (ciphered-is e (rw no) (rw no), rw no)
+
+pub key_of-requires : goal.key_of-requires
+key_of-requires c = (passed c).key-24
+
+pub iv_of-requires : goal.iv_of-requires
+iv_of-requires c = (passed c).iv-10
+
+pub write_keystream-made-requires : goal.write_keystream-made-requires
+write_keystream-made-requires c = let s = (passed c).span in (s.small, omega arith, omega arith)
+
+pub returns : goal.returns
+unfolding benched bench_blocks
+returns c =
+    let ran = c in
+    let iv = ran in
+    let e = iv in
+    let a = (start e).args in
+    let yes = eq-eqb (bench_refusal a.algorithm a.key.now a.iv.now a.buf.now a.n) 0 (accepted e) in
+    let made = ran.write_keystream-made.ensures in (
+      ciphered-is e.bench_refusal-refusal.ensures
+          (rw yes
+          (made.0
+          ∙ (λ i. written a.buf.now (keystream a.algorithm (iv.key_of.ensures i) (iv.iv_of.ensures i)) 0 0 a.n)))
+          (rw yes made.2),
+      made.1 ∙ rw (yes, ne_eqb (blocks_used 0 a.n) 0 (λ z. let some = used_pos 0 a.n (passed e).span.some in omega (arith, some))),
+    )

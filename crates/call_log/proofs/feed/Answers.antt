@@ -1,0 +1,30 @@
+-- `call_log::feed`: with each byte it is no longer left. Assumes nothing.
+use mathlib.Core.Path.{◌≡◌, refl, sym, ap, ◌∙◌}
+use Prim.Native.Nat.{◌≤◌, ◌+◌, ◌-◌}
+use native.Mathlib.Omega.{arith}
+use borrow.Author.Rules.{rules}
+use lib.ListN.{length, get_or, drop}
+use Rattle.call_log.specs.Fed.{Fed, fed_to, fed}
+use Rattle.call_log.proofs.Feeds.{fed-next, fed-over}
+use Rattle.call_log.proofs.Sizes.{byte-size}
+use Rattle.call_log.proofs.feed.Goals as goal
+
+pub loop-i-init : goal.loop-i-init
+loop-i-init c = (omega arith, refl, refl)
+
+pub loop-i-preserved : goal.loop-i-preserved
+loop-i-preserved c =
+    let call = c in
+    let loop = c in
+    let start = c in
+    let e = call.feed_byte-next.ensures in (
+      omega (arith, loop.loop-i.invariant.0),
+      ap (λ (f : Fed). length f.figures) e ∙ (byte-size (fed_to loop.loop-i.now loop.loop-i.figures) (get_or start.args.block.now loop.loop-i.i 0) ∙ loop.loop-i.invariant.1),
+      loop.loop-i.invariant.2 ∙ (fed-next (fed_to loop.loop-i.now loop.loop-i.figures) start.args.block.now loop.loop-i.i (search rules) ∙ ap (λ (f : Fed). fed f (drop (loop.loop-i.i + 1) start.args.block.now)) (sym e)),
+    )
+
+pub returns : goal.returns
+returns c =
+    let loop = c in
+    let start = c in
+    sym (loop.loop-i.invariant.2 ∙ fed-over (fed_to loop.loop-i.now loop.loop-i.figures) start.args.block.now loop.loop-i.i (search rules))

@@ -1,0 +1,17 @@
+-- `case_reader::numbers_readable`: the four numbers together. Assumes nothing.
+use mathlib.Core.Path.{◌∙◌}
+use mathlib.Core.Bool.{◌&&◌}
+use borrow.Author.Rules.{rules}
+use Rattle.case_reader.specs.Case.{numbers_readable}
+use Rattle.case_reader.proofs.numbers_readable.Goals as goal
+
+pub returns : goal.returns
+unfolding numbers_readable
+returns c =
+    let last = c in
+    let four = last in
+    c.both-3.ensures
+    ∙ (λ i. four.is_number.ensures i
+    && (c.both-2.ensures
+    ∙ (λ j. four.is_number-2.ensures j
+    && (last.both.ensures ∙ (λ k. four.is_number-3.ensures k && four.is_number-4.ensures k)) j)) i)

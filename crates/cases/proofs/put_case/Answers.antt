@@ -1,0 +1,55 @@
+-- `cases::put_case`: each answer by the tests that led to it. Assumes nothing.
+use mathlib.Core.Path.{sym, ap, ◌∙◌}
+use Prim.Native.Nat.{◌≤◌}
+use native.Mathlib.Omega.{arith}
+use lib.ListN.{length}
+use borrow.Author.Rules.{rules}
+use borrow.Author.Tests.{not-true, not-false}
+use Rattle.writing.proofs.Puts.{put-length, put_as}
+use Rattle.case_reader.specs.Case.{Accepted}
+use Rattle.cases.specs.Answer.{refused_text, answer_room}
+use Rattle.cases.proofs.Texts.{text-unreadable, text-refused, text-accepted, accepted-fits, refused-fits}
+use Rattle.cases.proofs.put_case.Goals as goal
+
+pub returns-then-not-is_readable : goal.returns-then-not-is_readable
+returns-then-not-is_readable c =
+    let put = c.put_bytes.ensures in
+    (omega (arith, put.ends), put_as (text-unreadable _ (sym c.is_readable.ensures ∙ not-true _ c.if-not-is_readable.true)) put)
+
+short : (c : goal.After-case_refusal-refusal) → length (refused_text c.case_refusal-refusal.result) ≤ answer_room
+short c = refused-fits c.case_refusal-refusal.result (omega arith)
+
+pub put_line-requires : goal.put_line-requires
+put_line-requires c = record { fits = omega (arith, short c, c.requires) }
+
+pub returns-then-refusal-ne-DONE : goal.returns-then-refusal-ne-DONE
+returns-then-refusal-ne-DONE c =
+    let put = c.put_line.ensures in
+    let refused = c.case_refusal-refusal.ensures in
+    let readable = sym c.is_readable.ensures ∙ not-false _ c.if-not-is_readable.false in
+    (omega (arith, put.ends, short c), put_as (ap refused_text refused ∙ text-refused _ readable (λ z. c.if-refusal-ne-DONE.true (refused ∙ z))) put)
+
+accepted : (c : goal.Else-refusal-ne-DONE) → Accepted c.args.line.now
+accepted c =
+    record {
+      readable = sym c.is_readable.ensures ∙ not-false _ c.if-not-is_readable.false;
+      passed = sym c.case_refusal-refusal.ensures ∙ c.if-refusal-ne-DONE.false;
+    }
+
+pub put_accepted-requires : goal.put_accepted-requires
+put_accepted-requires c = (accepted c, c.requires)
+
+pub returns : goal.returns
+returns c =
+    let put = c.put_accepted.ensures in
+    let a = accepted c in
+    (omega (arith, put.ends, accepted-fits a), put_as (text-accepted _ a) put)
+
+pub shape_of-out-then-not-is_readable : goal.shape_of-out-then-not-is_readable
+shape_of-out-then-not-is_readable c = put-length (returns-then-not-is_readable c).1
+
+pub shape_of-out-then-refusal-ne-DONE : goal.shape_of-out-then-refusal-ne-DONE
+shape_of-out-then-refusal-ne-DONE c = put-length (returns-then-refusal-ne-DONE c).1
+
+pub shape_of-out : goal.shape_of-out
+shape_of-out c = put-length (returns c).1

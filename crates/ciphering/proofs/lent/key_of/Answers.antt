@@ -1,0 +1,15 @@
+-- `ciphering::lent::key_of`: a copy. Assumes nothing.
+use mathlib.Core.Path.{refl}
+use Prim.Native.Nat.{◌-◌}
+use borrow.Author.Rules.{rules}
+use Rattle.laws.proofs.Lists.{fill_none, fill_more, Copied, copied_all}
+use Rattle.ciphering.proofs.lent.key_of.Goals as goal
+
+pub loop-i-init : goal.loop-i-init
+loop-i-init c = fill_none refl
+
+pub loop-i-preserved : goal.loop-i-preserved
+loop-i-preserved c = fill_more c.loop-i.invariant c.loop-i-test.true _ refl
+
+pub returns : goal.returns
+returns c = copied_all c.loop-i.invariant c.loop-i-test.false c.requires

@@ -1,0 +1,20 @@
+-- `pairs::is_left_out`: by what the two tests ensure. Assumes nothing.
+use mathlib.Core.Bool.{not}
+use mathlib.Core.Path.{sym, ap, ◌∙◌}
+use borrow.Author.Rules.{rules}
+use borrow.Author.Tests.{not-true, not-false}
+use Rattle.conversion_pairs.specs.Pairs.{named_on, left_out}
+use Rattle.conversion_pairs.proofs.is_left_out.Goals as goal
+
+pub returns-then-not-is_there : goal.returns-then-not-is_there
+unfolding left_out
+returns-then-not-is_there c = rw (sym c.is_there.ensures ∙ not-true _ c.if-not-is_there.true)
+
+pub returns : goal.returns
+unfolding left_out
+returns c =
+    let count = c in
+    let there = count in
+    let args = there.args in
+    rw (sym there.is_there.ensures ∙ not-false _ count.if-not-is_there.false)
+    (ap not (c.is_named.ensures ∙ ap (named_on 1 args.pairs.now args.n) count.pair_count.ensures))

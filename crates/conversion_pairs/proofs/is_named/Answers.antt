@@ -1,0 +1,29 @@
+-- `pairs::is_named`: the pairs passed name the number or do not. Assumes nothing.
+use mathlib.Core.Logic.{⊎_elim}
+use mathlib.Core.Path.{◌≡◌, refl, sym, ap, ◌∙◌}
+use Prim.Native.Nat.{◌≤◌, ◌-◌}
+use native.Mathlib.Omega.{arith}
+use borrow.Author.Rules.{rules}
+use Rattle.conversion_pairs.specs.Pairs.{named_on}
+use Rattle.conversion_pairs.proofs.Steps.{named_here, named-not}
+use Rattle.conversion_pairs.proofs.is_named.Goals as goal
+
+pub loop-i-init : goal.loop-i-init
+unfolding named_on
+loop-i-init c = (search rules, refl)
+
+pub loop-i-preserved : goal.loop-i-preserved
+loop-i-preserved c =
+    let number = c in
+    let loop = number.loop-i in
+    let args = number.args in
+    ⊎_elim
+    (λ w. (search rules, w.1 ∙ sym (named_here args.side args.pairs.now args.n loop.i (sym number.number_on.ensures ∙ w.0.taken))))
+    (λ w. (search rules, w.1 ∙ (loop.invariant.1 ∙ sym (named-not args.side args.pairs.now args.n loop.i (λ e. w.0.left (number.number_on.ensures ∙ e))))))
+    c.if-number_on-n.branch
+
+pub returns : goal.returns
+returns c =
+    let args = c.args in
+    let z : c.loop-i.i ≡ args.count = omega arith in
+    c.loop-i.invariant.1 ∙ ap (named_on args.side args.pairs.now args.n) z

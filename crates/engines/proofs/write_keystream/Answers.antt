@@ -1,0 +1,21 @@
+-- `engines::write_keystream`: bits that were cleared and then xored are the keystream's. Assumes nothing.
+use mathlib.Core.List.{List}
+use mathlib.Core.Path.{ap, ◌∙◌}
+use Prim.Native.Nat.{ℕ}
+use borrow.Author.Rules.{rules}
+use Rattle.span.specs.Span.{xored}
+use Rattle.span.proofs.Laws.{xored-cleared}
+use Rattle.keystream.specs.Stream.{keystream}
+use Rattle.engines.proofs.write_keystream.Goals as goal
+
+pub returns : goal.returns
+returns c =
+    let ran = c in
+    let front = ran in
+    let a = front.args in
+    let k = keystream a.algorithm a.ck a.iv in (
+      ran.xor_keystream.ensures.0
+          ∙ ap (λ (l : List ℕ). xored l k 0 a.skip a.n) front.clear_front.ensures
+          ∙ xored-cleared a.buf.now k 0 a.skip a.n,
+      ran.xor_keystream.ensures.2,
+    )

@@ -1,0 +1,8 @@
+-- `inv_parts::inv_mixed_word`: by the callees' contracts. Assumes nothing.
+use borrow.Author.Rules.{rules}
+use Rattle.inv_parts.specs.Schedule.{inv_mixed_word}
+use Rattle.inv_parts.proofs.inv_mixed_word.Goals as goal
+
+pub returns : goal.returns
+unfolding inv_mixed_word
+returns c = cc

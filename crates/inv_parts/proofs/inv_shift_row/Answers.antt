@@ -1,0 +1,20 @@
+-- `inv_parts::inv_shift_row`: column by column, `Columns`; row 0 is stored too, so that one law serves. Assumes nothing.
+use mathlib.Core.Path.{refl, ap}
+use Prim.Native.Nat.{◌+◌, ◌-◌, ◌%◌}
+use borrow.Author.Rules.{rules}
+use Rattle.round_steps.specs.Steps.{shift_of}
+use Rattle.inv_parts.specs.Steps.{inv_shift_row}
+use Rattle.laws.proofs.States.{Columns, columns-none, columns-more, columns-all, state-shape}
+use Rattle.laws.proofs.InRows.{not-turned}
+use Rattle.laws.specs.Lists.{cell}
+use Rattle.inv_parts.proofs.inv_shift_row.Goals as goal
+
+pub loop-c-init : goal.loop-c-init
+loop-c-init c = columns-none (state-shape c.well_formed.0)
+
+pub loop-c-preserved : goal.loop-c-preserved
+loop-c-preserved c = let turn = c in
+    columns-more turn.loop-c.invariant turn.loop-c-test.true _ _ _ _ (ap (cell turn.args.s 0) (not-turned _ turn.loop-c-test.true).1) refl refl refl
+
+pub returns : goal.returns
+returns c = columns-all c.loop-c.invariant c.loop-c-test.false

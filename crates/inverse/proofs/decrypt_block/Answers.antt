@@ -1,0 +1,6 @@
+-- `inverse::decrypt_block`: by the callees' contracts. Assumes nothing.
+use borrow.Author.Rules.{rules}
+use Rattle.inverse.proofs.decrypt_block.Goals as goal
+
+pub returns : goal.returns
+returns c = cc

@@ -1,0 +1,6 @@
+-- `inverse::inv_last_round`: by the steps' own contracts. Assumes nothing.
+use borrow.Author.Rules.{rules}
+use Rattle.inverse.proofs.inv_last_round.Goals as goal
+
+pub returns : goal.returns
+returns c = cc

@@ -1,0 +1,24 @@
+-- `inverse::steps::inv_byte_sub`: cell by cell. Assumes nothing.
+use Prim.Native.Nat.{◌-◌}
+use borrow.Author.Rules.{rules}
+use Rattle.inv_bytes.specs.Bytes.{inv_s_box}
+use Rattle.inv_parts.specs.Steps.{inv_byte_sub}
+use Rattle.laws.proofs.States.{state-shape}
+use Rattle.laws.proofs.InRows.{InRow, InRows, in-rows-none, in-row-none, in-row-more, in-rows-more, in-rows-all}
+use Rattle.laws.specs.Lists.{cell}
+use Rattle.inverse.proofs.steps.inv_byte_sub.Goals as goal
+
+pub loop-r-init : goal.loop-r-init
+loop-r-init c = in-rows-none (state-shape c.well_formed.0)
+
+pub loop-c-init : goal.loop-c-init
+loop-c-init c = in-row-none c.loop-r.invariant c.loop-r-test.true
+
+pub loop-c-preserved : goal.loop-c-preserved
+loop-c-preserved c = in-row-more c.loop-c.invariant c.loop-c-test.true _ c.inv_substituted.ensures
+
+pub loop-r-preserved : goal.loop-r-preserved
+loop-r-preserved c = in-rows-more c.loop-c.invariant c.loop-c-test.false
+
+pub returns : goal.returns
+returns c = in-rows-all c.loop-r.invariant c.loop-r-test.false

@@ -1,0 +1,19 @@
+-- `keystream::reach`: the last block, or one that is made. Assumes nothing.
+use mathlib.Core.Path.{sym, subst}
+use Prim.Native.Nat.{ℕ, ◌+◌}
+use borrow.Author.Rules.{rules}
+use borrow.Author.Tests.{eq-eqb, ne_eqb}
+use Rattle.keystream.specs.Work.{Held}
+use Rattle.keystream.proofs.Order.{put-held}
+use Rattle.keystream.proofs.reach.Goals as goal
+
+pub returns-then-work-j : goal.returns-then-work-j
+returns-then-work-j c =
+    let s = c in
+    (rw (eq-eqb _ _ c.if-work-j.true), subst (λ (n : ℕ). Held s.args.mode n s.args.kept.now) c.if-work-j.true s.requires.3)
+
+pub returns : goal.returns
+returns c =
+    let s = c in
+    let a = s.args in
+    (rw (ne_eqb _ _ c.if-work-j.false) c.make.ensures.0, subst (Held a.mode (a.j + 1)) (sym c.make.ensures.1) (put-held a.mode a.j a.kept.now s.requires.3.two))

@@ -1,0 +1,49 @@
+-- `names::name_bytes`: by the number. Assumes nothing.
+use Rattle.lines.specs.Line.{index_of}
+use Rattle.line_names.specs.Names.{name_text}
+use Rattle.line_names.proofs.Same.{no_name}
+use Rattle.line_names.proofs.name_bytes.Goals as goal
+
+pub returns-in-0 : goal.returns-in-0
+unfolding index_of name_text
+returns-in-0 c = rw c.in-0.keys1
+
+pub returns-in-1 : goal.returns-in-1
+unfolding index_of name_text
+returns-in-1 c = rw c.in-0.keys2
+
+pub returns-in-2 : goal.returns-in-2
+unfolding index_of name_text
+returns-in-2 c = rw c.in-0.keys3
+
+pub returns-in-3 : goal.returns-in-3
+unfolding index_of name_text
+returns-in-3 c = rw c.in-0.keys4
+
+pub returns-in-4 : goal.returns-in-4
+unfolding index_of name_text
+returns-in-4 c = rw c.in-0.keys5
+
+pub returns-in-5 : goal.returns-in-5
+unfolding index_of name_text
+returns-in-5 c = rw c.in-0.keys6
+
+pub returns-in-6 : goal.returns-in-6
+unfolding index_of name_text
+returns-in-6 c = rw c.in-0.keys7
+
+pub returns-in-7 : goal.returns-in-7
+unfolding index_of name_text
+returns-in-7 c = rw c.in-0.keys8
+
+pub returns-in-8 : goal.returns-in-8
+unfolding index_of name_text
+returns-in-8 c = rw c.in-0.keys9
+
+pub returns-in-9 : goal.returns-in-9
+unfolding index_of name_text
+returns-in-9 c = rw c.in-0.keys10
+
+pub returns-in_default : goal.returns-in_default
+unfolding index_of
+returns-in_default c = rw (no_name _ c.in-0.rest)

@@ -1,0 +1,29 @@
+-- `names::same_text`: what is to be answered stays the same with each byte. Assumes nothing.
+use mathlib.Core.Path.{◌≡◌, refl, sym, ◌∙◌}
+use mathlib.Core.Bool.{true, false}
+use Prim.Native.Nat.{◌-◌}
+use native.Mathlib.Omega.{arith}
+use lib.ListN.{length, drop}
+use borrow.Author.Rules.{rules}
+use Rattle.line_names.specs.Names.{same_text}
+use Rattle.line_names.proofs.Same.{same-sizes, same_end, same-other, same-on}
+use Rattle.line_names.proofs.same_text.Goals as goal
+
+pub returns-then-s-t : goal.returns-then-s-t
+returns-then-s-t c = sym (same-sizes _ _ c.if-s-t.true)
+
+pub loop-i-init : goal.loop-i-init
+loop-i-init c = (c.if-s-t.false, refl)
+
+pub returns-then-s-i : goal.returns-then-s-i
+returns-then-s-i c =
+    let test = c in
+    sym (test.loop-i.invariant.1 ∙ same-other _ _ _ test.loop-i.invariant.0 test.loop-i-test.true c.if-s-i.true)
+
+pub loop-i-preserved : goal.loop-i-preserved
+loop-i-preserved c =
+    let test = c in
+    (test.loop-i.invariant.0, test.loop-i.invariant.1 ∙ same-on _ _ _ test.loop-i.invariant.0 test.loop-i-test.true c.if-s-i.false)
+
+pub returns : goal.returns
+returns c = sym (c.loop-i.invariant.1 ∙ same_end _ _ _ c.loop-i.invariant.0 c.loop-i-test.false)

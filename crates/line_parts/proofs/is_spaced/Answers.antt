@@ -1,0 +1,21 @@
+-- `line_parts::is_spaced`: before the `=`, or after it. Assumes nothing.
+use mathlib.Core.Path.{ap, sym, ◌∙◌}
+use Prim.Native.Nat.{ℕ}
+use native.Mathlib.Omega.{arith}
+use lib.Dec.{ltb}
+use borrow.Author.Rules.{rules}
+use Rattle.lines.specs.Line.{space}
+use Rattle.line_parts.specs.Line.{leading, trailing}
+use Rattle.line_parts.proofs.Counts.{spaced-before, spaced-after}
+use Rattle.line_parts.proofs.is_spaced.Goals as goal
+
+pub returns-then-before-gt0 : goal.returns-then-before-gt0
+returns-then-before-gt0 c =
+    let calls = c in
+    sym (spaced-before _ (omega (arith, calls.trailing-before.ensures ∙ ap (trailing space) calls.before_equals.ensures)))
+
+pub returns : goal.returns
+returns c =
+    let calls = c in
+    ap (ltb 0) (calls.leading-after.ensures ∙ ap (leading space) calls.after_equals.ensures)
+    ∙ sym (spaced-after _ (omega (arith, calls.trailing-before.ensures ∙ ap (trailing space) calls.before_equals.ensures)))

@@ -1,0 +1,25 @@
+-- `line_parts::trailing`: how many there are stays the same with each byte passed from the end. Assumes nothing.
+use mathlib.Core.Path.{◌≡◌, refl}
+use Prim.Native.Nat.{◌-◌, ◌+◌}
+use native.Mathlib.Omega.{arith}
+use lib.ListN.{length, take}
+use borrow.Author.Rules.{rules}
+use Rattle.line_parts.specs.Line.{trailing}
+use Rattle.line_parts.proofs.Counts.{last-all, last-other, last_on, last_none}
+use Rattle.line_parts.proofs.trailing.Goals as goal
+
+pub loop-i-init : goal.loop-i-init
+loop-i-init c = (refl, omega (arith, last-all c.args.b c.args.s.now))
+
+pub returns-then-s-n : goal.returns-then-s-n
+returns-then-s-n c =
+    let loop = c in
+    omega (arith, last-other loop.args.b loop.args.s.now loop.loop-i.i c.loop-i-test.true c.if-s-n.true)
+
+pub loop-i-preserved : goal.loop-i-preserved
+loop-i-preserved c =
+    let loop = c in
+    (refl, omega (arith, last_on loop.args.b loop.args.s.now loop.loop-i.i c.loop-i-test.true c.if-s-n.false))
+
+pub returns : goal.returns
+returns c = omega (arith, last_none c.args.b c.args.s.now c.loop-i.i c.loop-i-test.false)

@@ -1,0 +1,82 @@
+-- `number::read_number`: what is to be answered stays the same with each digit. Assumes nothing.
+use mathlib.Core.Bool.{true}
+use mathlib.Core.Path.{◌≡◌, sym, ◌∙◌}
+use mathlib.Core.List.{List}
+use Prim.Native.Nat.{ℕ, ◌-◌, ◌<◌, ◌≤◌}
+use native.Mathlib.Omega.{arith}
+use lib.ListN.{length, get_or}
+use borrow.Author.Rules.{rules}
+use borrow.Author.Tests.{not-true, not-false}
+use Rattle.forms.specs.Decimals.{may_begin, may_follow}
+use Rattle.forms.proofs.Decimals.{begin-is, follow-is}
+use Rattle.line_values.specs.Parts.{largest, number_of}
+use Rattle.line_values.proofs.Digits.{number_from, number-no, number-digit, number-end, first-none, first-no, first-yes}
+use Rattle.line_values.proofs.number.read_number.Goals as goal
+
+pub returns-then-s-eq0 : goal.returns-then-s-eq0
+returns-then-s-eq0 c = c.no_number.ensures ∙ sym (first-none c.args.s.now c.if-s-eq0.true)
+
+some : (c : goal.Else-s-eq0) → 0 < length c.args.s.now
+some c = omega (arith, c.if-s-eq0.false)
+
+pub returns-then-not-may_begin : goal.returns-then-not-may_begin
+returns-then-not-may_begin c =
+    let rest = c in
+    c.no_number-then-not-may_begin.ensures
+    ∙ sym (first-no rest.args.s.now (some rest) (sym c.may_begin.ensures ∙ not-true _ c.if-not-may_begin.true))
+
+begins : (c : goal.Else-not-may_begin) → may_begin 0 largest (get_or c.args.s.now 0 0) ≡ true
+begins c = sym c.may_begin.ensures ∙ not-false _ c.if-not-may_begin.false
+
+pub overflow_sub-value : goal.overflow_sub-value
+overflow_sub-value c = let k = begin-is _ _ _ (begins c) in omega arith
+
+pub overflow_cast-value : goal.overflow_cast-value
+overflow_cast-value c =
+    let k = begin-is _ _ _ (begins c) in record { fits = omega arith }
+
+pub loop-i-init : goal.loop-i-init
+loop-i-init c =
+    let rest = c in
+    (omega (arith, some rest), first-yes rest.args.s.now (some rest) (begins c))
+
+abbrev text : goal.At-loop-i → List ℕ
+text here = here.args.s.now
+
+pub returns-then-not-may_follow : goal.returns-then-not-may_follow
+returns-then-not-may_follow c =
+    let test = c in
+    c.no_number-then-not-may_follow.ensures
+    ∙ sym (test.loop-i.invariant.1
+    ∙ number-no (text test) _ test.loop-i-test.true _ (sym c.may_follow.ensures ∙ not-true _ c.if-not-may_follow.true))
+
+-- the byte may follow
+
+follows : (c : goal.Else-not-may_follow) → let here = c in
+    may_follow largest here.loop-i.value (get_or (text here) here.loop-i.i 0) ≡ true
+follows c = sym c.may_follow.ensures ∙ not-false _ c.if-not-may_follow.false
+
+pub overflow_mul-value : goal.overflow_mul-value
+overflow_mul-value c =
+    let k = follow-is _ _ _ (follows c) in record { fits = omega arith }
+
+pub overflow_sub-value-in-loop-i : goal.overflow_sub-value-in-loop-i
+overflow_sub-value-in-loop-i c = let k = follow-is _ _ _ (follows c) in omega arith
+
+pub overflow_cast-value-in-loop-i : goal.overflow_cast-value-in-loop-i
+overflow_cast-value-in-loop-i c =
+    let k = follow-is _ _ _ (follows c) in record { fits = omega arith }
+
+pub overflow_add-value : goal.overflow_add-value
+overflow_add-value c =
+    let k = follow-is _ _ _ (follows c) in record { fits = omega arith }
+
+pub loop-i-preserved : goal.loop-i-preserved
+loop-i-preserved c =
+    let test = c in
+    (omega (arith, test.loop-i-test.true), test.loop-i.invariant.1 ∙ number-digit (text test) _ test.loop-i-test.true _ (follows c))
+
+pub returns : goal.returns
+returns c =
+    let loop = c.loop-i in
+    c.good_number.ensures ∙ sym (loop.invariant.1 ∙ number-end _ (text c) loop.i (omega (arith, loop.invariant.0, c.loop-i-test.false)))

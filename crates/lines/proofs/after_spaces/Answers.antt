@@ -1,0 +1,35 @@
+-- `lines::after_spaces`: what is to be left stays the same with each space. Assumes nothing.
+use mathlib.Core.Path.{◌≡◌, sym, ap, ◌∙◌}
+use Prim.Native.Nat.{ℕ, ◌≤◌, ◌-◌}
+use native.Mathlib.Omega.{arith}
+use lib.ListN.{length, drop}
+use borrow.Author.Rules.{rules}
+use Rattle.lines.specs.Line.{space, after_spaces}
+use Rattle.lines.proofs.Pieces.{step-within, step-on, step-all}
+use Rattle.lines.proofs.after_spaces.Goals as goal
+
+pub loop-i-init : goal.loop-i-init
+loop-i-init c =
+    let args = c.args in
+    let z : args.k ≡ args.k - 0 = omega arith in
+    (omega arith, ap (λ (m : ℕ). after_spaces m args.line.now) z)
+
+pub overflow_add-at : goal.overflow_add-at
+overflow_add-at c =
+    let loop = c in
+    let args = loop.args in
+    record { fits = omega (arith, step-within space args.line.now loop.loop-i.at _ c.piece_length-at.ensures loop.loop-i.invariant.0) }
+
+pub loop-i-preserved : goal.loop-i-preserved
+loop-i-preserved c =
+    let loop = c in
+    let args = loop.args in (
+      step-within space args.line.now loop.loop-i.at _ c.piece_length-at.ensures loop.loop-i.invariant.0,
+      loop.loop-i.invariant.1 ∙ step-on args.line.now args.k loop.loop-i.i loop.loop-i.at _ c.piece_length-at.ensures c.loop-i-test.true,
+    )
+
+pub returns : goal.returns
+returns c =
+    let loop = c in
+    let args = loop.args in
+    sym (loop.loop-i.invariant.1 ∙ step-all args.line.now args.k loop.loop-i.i loop.loop-i.at c.loop-i-test.false)

@@ -1,0 +1,28 @@
+-- `lines::column_of`: so far, the column of the place reached. Assumes nothing.
+use mathlib.Core.Path.{◌≡◌, sym, ap, ◌∙◌}
+use mathlib.Core.Logic.{⊎_elim}
+use Prim.Native.Nat.{◌≤◌, ◌+◌, ◌-◌}
+use native.Mathlib.Omega.{arith}
+use borrow.Author.Rules.{rules}
+use Rattle.lines.specs.Line.{column_of}
+use Rattle.lines.proofs.Ends.{column-first, column-next, column-same}
+use Rattle.lines.proofs.column_of.Goals as goal
+
+pub loop-i-init : goal.loop-i-init
+loop-i-init c = (omega arith, omega arith, sym (column-first _))
+
+pub overflow_add-column : goal.overflow_add-column
+overflow_add-column c = record { fits = omega (arith, c.well_formed.0.1) }
+
+pub loop-i-preserved : goal.loop-i-preserved
+loop-i-preserved c =
+    let loop = c in
+    ⊎_elim
+    (λ w. (omega arith, omega (arith, w.1), w.1 ∙ sym (column-next _ _ (omega arith) w.0.taken)))
+    (λ w. (omega arith, omega (arith, w.1), w.1 ∙ ap (◌+ 1) loop.loop-i.invariant.2 ∙ sym (column-same _ _ (omega arith) w.0.left)))
+    c.if-text-i-eq10.branch
+
+pub returns : goal.returns
+returns c =
+    let e : c.loop-i.i ≡ c.args.place = omega arith in
+    c.loop-i.invariant.2 ∙ ap (column_of _) e

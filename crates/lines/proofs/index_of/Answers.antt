@@ -1,0 +1,18 @@
+-- `lines::index_of`: where the byte stands stays the same with each byte passed. Assumes nothing.
+use mathlib.Core.Path.{◌≡◌}
+use Prim.Native.Nat.{◌-◌, ◌+◌}
+use native.Mathlib.Omega.{arith}
+use lib.ListN.{length, drop}
+use borrow.Author.Rules.{rules}
+use Rattle.lines.specs.Line.{index_of}
+use Rattle.lines.proofs.Pieces.{index-end, index-here, index_on}
+use Rattle.lines.proofs.index_of.Goals as goal
+
+pub returns-then-s-i : goal.returns-then-s-i
+returns-then-s-i c = omega (arith, index-here _ c.args.s.now _ c.loop-i-test.true c.if-s-i.true)
+
+pub loop-i-preserved : goal.loop-i-preserved
+loop-i-preserved c = omega (arith, index_on _ c.args.s.now _ c.loop-i-test.true c.if-s-i.false)
+
+pub returns : goal.returns
+returns c = omega (arith, index-end c.args.b c.args.s.now _ c.loop-i-test.false)

@@ -1,0 +1,6 @@
+-- `loading::refused`: with the empty table. Assumes nothing.
+use borrow.Author.Rules.{rules}
+use Rattle.loading.proofs.refused.Goals as goal
+
+pub returns : goal.returns
+returns c = rw c.empty_table.ensures

@@ -1,0 +1,32 @@
+-- `mended_text::put_text`: with each line it is no longer left. Assumes nothing.
+use mathlib.Core.Path.{◌≡◌}
+use Prim.Native.Nat.{◌≤◌, ◌-◌}
+use native.Mathlib.Omega.{arith}
+use borrow.Author.Rules.{rules}
+use Rattle.writing.proofs.Puts.{put-length}
+use Rattle.writing.proofs.Left.{Left, left-all, left_as, left-next, left-none, next-room}
+use Rattle.line_names.specs.Names.{name_count}
+use Rattle.sheet_faults.specs.Sheet.{lines_of}
+use Rattle.mended_text.specs.Text.{lines_mended, text_mended}
+use Rattle.mended_text.proofs.Laws.{lines_next, lines_none, text-lines}
+use Rattle.mended_text.proofs.put_text.Goals as goal
+
+pub loop-k-init : goal.loop-k-init
+loop-k-init c = (omega arith, left_as (text-lines _ _ c.requires.0) left-all)
+
+pub put_line-next-requires : goal.put_line-next-requires
+put_line-next-requires c =
+    let loop = c in
+    next-room _ loop.requires.1 (left_as (lines_next _ _ _ c.loop-k-test.true) loop.loop-k.invariant.1)
+
+pub loop-k-preserved : goal.loop-k-preserved
+loop-k-preserved c =
+    let call = c in
+    let test = call in
+    (omega arith, left-next (left_as (lines_next _ _ _ test.loop-k-test.true) test.loop-k.invariant.1) call.put_line-next.ensures)
+
+pub returns : goal.returns
+returns c = left-none (left_as (lines_none _ _ _ c.loop-k-test.false) c.loop-k.invariant.1)
+
+pub shape_of-buffer : goal.shape_of-buffer
+shape_of-buffer c = put-length (returns c)

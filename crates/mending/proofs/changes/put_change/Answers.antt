@@ -1,0 +1,53 @@
+-- `changes::put_change`: nothing, or the line. Assumes nothing.
+use mathlib.Core.Path.{◌≡◌, sym, ap, ◌∙◌}
+use mathlib.Core.Bool.{Bool, true, false}
+use mathlib.Core.List.{◌∷◌, [], ◌++◌}
+use borrow.Author.Rules.{rules}
+use borrow.Author.Tests.{not-true, not-false}
+use Rattle.writing.specs.Text.{ascii, lf}
+use Rattle.writing.proofs.Puts.{put_as, put-none, put_then, put-length, room_as, room-first, room-then}
+use Rattle.mending.specs.Changes.{change_text}
+use Rattle.mending.proofs.Changed.{change-made, change-none}
+use Rattle.mending.proofs.changes.put_change.Goals as goal
+
+pub returns-then-not-made : goal.returns-then-not-made
+returns-then-not-made c =
+    let args = c.args in
+    put_as (sym (ap (λ (t : Bool). change_text t args.name.now) (not-true _ c.if-not-made.true) ∙ change-none args.name.now)) (put-none _ _)
+
+-- a line is put
+
+is_made : (c : goal.Else-not-made) → let args = c.args in
+    change_text args.made args.name.now ≡ ascii "changed=" ++ (args.name.now ++ (lf ∷ []))
+is_made c =
+    let args = c.args in
+    ap (λ (t : Bool). change_text t args.name.now) (not-false _ c.if-not-made.false) ∙ change-made args.name.now
+
+pub put_bytes-value-requires : goal.put_bytes-value-requires
+put_bytes-value-requires c =
+    let test = c in
+    room-first _ (room_as (is_made test) test.requires)
+
+pub put_bytes-end-requires : goal.put_bytes-end-requires
+put_bytes-end-requires c =
+    let first = c in
+    let test = first in
+    room-first _ (room-then first.put_bytes-value.ensures (room_as (is_made test) test.requires))
+
+pub put_bytes-requires : goal.put_bytes-requires
+put_bytes-requires c =
+    let name = c in
+    let first = name in
+    let test = first in
+    room-then name.put_bytes-end.ensures (room-then first.put_bytes-value.ensures (room_as (is_made test) test.requires))
+
+pub returns : goal.returns
+returns c =
+    let end = c in
+    let name = end in
+    let first = name in
+    put_as (sym (is_made first))
+    (put_then first.put_bytes-value.ensures (put_then name.put_bytes-end.ensures end.put_bytes.ensures))
+
+pub shape_of-buffer : goal.shape_of-buffer
+shape_of-buffer c = put-length (returns c)

@@ -1,0 +1,23 @@
+-- `changes::put_fault`: by whether some line has it. Assumes nothing.
+use mathlib.Core.Path.{◌≡◌, sym, ap}
+use mathlib.Core.Bool.{Bool}
+use borrow.Author.Rules.{rules}
+use Rattle.writing.proofs.Puts.{put_as, put-length, room_as}
+use Rattle.mending.specs.Changes.{change_text}
+use Rattle.mending.proofs.changes.put_fault.Goals as goal
+
+pub put_change-requires : goal.put_change-requires
+put_change-requires c =
+    let fault = c in
+    let start = fault in
+    room_as (ap (λ (t : Bool). change_text t start.args.name.now) (sym fault.any_fault-made.ensures)) start.requires
+
+pub returns : goal.returns
+returns c =
+    let call = c in
+    let fault = call in
+    let start = fault in
+    put_as (ap (λ (t : Bool). change_text t start.args.name.now) fault.any_fault-made.ensures) call.put_change.ensures
+
+pub shape_of-buffer : goal.shape_of-buffer
+shape_of-buffer c = put-length (returns c)

@@ -1,0 +1,48 @@
+-- `month_sheet::put_counts`: with each code its text is no longer left. Assumes nothing.
+use mathlib.Core.Path.{◌≡◌}
+use Prim.Native.Nat.{ℕ, ◌≤◌, ◌+◌, ◌-◌, ◌*◌, ◌/◌, ◌%◌}
+use native.Mathlib.Omega.{arith}
+use borrow.Author.Rules.{rules}
+use lib.ListN.{get_or}
+use Rattle.writing.proofs.Puts.{put_as, put-length}
+use Rattle.writing.proofs.Left.{Left, left-all, left_as, left-next, left-none}
+use Rattle.month_sheet.specs.Sheet.{count_text, texts, longest_count}
+use Rattle.month_sheet.proofs.Lengths.{count-short}
+use Rattle.month_sheet.proofs.Texts.{texts-next, texts-none}
+use Rattle.month_sheet.proofs.put_counts.Goals as goal
+
+pub loop-code-init : goal.loop-code-init
+loop-code-init c = (omega arith, omega arith, omega arith, left-all)
+
+pub put_pair-next-requires : goal.put_pair-next-requires
+unfolding count_text
+put_pair-next-requires c =
+    let loop = c in
+    let size = loop.loop-code.invariant.3.size in
+    record { fits = omega (arith, count-short loop.loop-code.code c.figure-count.result (search rules) (search rules)) }
+
+pub loop-code-preserved : goal.loop-code-preserved
+unfolding count_text
+loop-code-preserved c =
+    let call = c in
+    let loop = c in
+    let figures = c.args.figures.now in
+    let put = call.put_pair-next.ensures in (
+      omega arith,
+      omega arith,
+      omega (arith, put.ends, count-short loop.loop-code.code c.figure-count.result (search rules) (search rules)),
+      left-next (left_as (texts-next (λ code. count_text code (get_or figures (195 + code) 0)) loop.loop-code.code 28 (search rules)) loop.loop-code.invariant.3)
+          (put_as (λ k. count_text loop.loop-code.code (c.figure-count.ensures k)) put),
+    )
+
+pub returns : goal.returns
+returns c =
+    let loop = c in
+    let figures = c.args.figures.now in
+    (omega arith, left-none (left_as (texts-none (λ code. count_text code (get_or figures (195 + code) 0)) loop.loop-code.code 28 (search rules)) loop.loop-code.invariant.3))
+
+pub shape_of-buffer : goal.shape_of-buffer
+shape_of-buffer c = put-length (returns c).1
+
+-- UNPLACED invariant invariant-loop: ['buffer₀', 'at', 'figures', 'end₀', 'code₀', 'name', 'last', 'buffer', 'end', 'code'] for ['l.initial.buffer', 'l.at', 'l.figures', 'l.initial.end', 'l.initial.code', 'l.buffer', 'l.end', 'l.code']
+-- UNPLACED decreases decreases-loop: ['buffer₀', 'at', 'figures', 'end₀', 'code₀', 'name', 'last', 'buffer', 'end', 'code'] for ['l.initial.buffer', 'l.at', 'l.figures', 'l.initial.end', 'l.initial.code', 'l.buffer', 'l.end', 'l.code']

@@ -1,0 +1,20 @@
+-- `month_sheet::put_counts`: with each code its text is no longer left. Assumes nothing.
+use mathlib.Core.Path.{◌≡◌}
+use Prim.Native.Nat.{ℕ, ◌≤◌, ◌+◌, ◌-◌, ◌*◌, ◌/◌, ◌%◌}
+use native.Mathlib.Omega.{arith}
+use borrow.Author.Rules.{rules}
+use lib.ListN.{get_or}
+use Rattle.writing.proofs.Puts.{put_as, put-length}
+use Rattle.writing.proofs.Left.{Left, left-all, left_as, left-next, left-none}
+use Rattle.month_sheet.specs.Sheet.{count_text, texts, longest_count}
+use Rattle.month_sheet.proofs.Lengths.{count-short}
+use Rattle.month_sheet.proofs.Texts.{texts-next, texts-none}
+use Rattle.month_sheet.proofs.put_counts.Given as goal
+
+abbrev pub invariant-loop-code : goal.invariant-loop-code
+invariant-loop-code l =
+    (1 ≤ code) × (code ≤ 28) × (end + longest_count ≤ l.at + code * longest_count)
+    × Left l.initial.buffer l.at (texts (λ code. count_text code (get_or l.figures (195 + code) 0)) 1 27) l.code end (texts (λ code. count_text code (get_or l.figures (195 + code) 0)) code (28 - code))
+
+abbrev pub decreases-loop-code : goal.decreases-loop-code
+decreases-loop-code l = 28 - code

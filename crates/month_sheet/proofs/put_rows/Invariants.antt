@@ -1,0 +1,19 @@
+-- `month_sheet::put_rows`: with each row its text is no longer left. Assumes nothing.
+use mathlib.Core.Path.{◌≡◌}
+use Prim.Native.Nat.{ℕ, ◌≤◌, ◌+◌, ◌-◌, ◌*◌, ◌/◌, ◌%◌}
+use native.Mathlib.Omega.{arith}
+use borrow.Author.Rules.{rules}
+use lib.ListN.{get_or}
+use Rattle.writing.proofs.Puts.{put_as, put-length}
+use Rattle.writing.proofs.Left.{Left, left-all, left_as, left-next, left-none}
+use Rattle.month_sheet.specs.Sheet.{row_text, texts, row_in, sums_in, longest_row}
+use Rattle.month_sheet.proofs.Texts.{texts-next, texts-none}
+use Rattle.month_sheet.proofs.put_rows.Given as goal
+
+abbrev pub invariant-loop-i : goal.invariant-loop-i
+invariant-loop-i l =
+    (l.i ≤ 64) × (l.end ≤ l.at + l.i * longest_row)
+    × Left l.initial.buffer l.at (texts (row_in (sums_in l.figures)) 0 64) l.buffer l.end (texts (row_in (sums_in l.figures)) l.i (64 - l.i))
+
+abbrev pub decreases-loop-i : goal.decreases-loop-i
+decreases-loop-i l = 64 - l.i

@@ -1,0 +1,17 @@
+-- `month_sheet::put_sheet`: one part after the other. Assumes nothing.
+use mathlib.Core.Path.{◌≡◌}
+use native.Mathlib.Omega.{arith}
+use Rattle.writing.proofs.Puts.{put_as, put_then}
+use Rattle.month_sheet.specs.Sheet.{total_text, sheet_text}
+use borrow.Author.Rules.{rules}
+use Rattle.month_sheet.proofs.put_sheet.Goals as goal
+
+pub returns : goal.returns
+unfolding sheet_text
+returns c =
+    let put = c.put_total.ensures in (
+      omega (arith, put.0, c.put_counts-total.ensures.0, c.put_rows-counts.ensures.0),
+      put_then c.put_rows-counts.ensures.1
+          (put_then c.put_counts-total.ensures.1
+          (put_as (λ k. total_text (c.figure.ensures k) (c.figure-2.ensures k) (c.figure-3.ensures k) (c.figure-4.ensures k)) put.1)),
+    )

@@ -1,0 +1,38 @@
+-- `month_sheet::put_total`: item after item. Assumes nothing.
+use native.Mathlib.Omega.{arith}
+use Prim.Native.Nat.{◌≤◌}
+use lib.ListN.{length}
+use Rattle.writing.specs.Writing.{Room}
+use Rattle.writing.proofs.Puts.{put-length}
+use Rattle.writing.proofs.Left.{left-all, left-room, left-next, left-last, next-room}
+use Rattle.month_sheet.specs.Sheet.{total_text, longest_total}
+use Rattle.month_sheet.proofs.Lengths.{total-short}
+use borrow.Author.Rules.{rules}
+use Rattle.month_sheet.proofs.put_total.Goals as goal
+
+short : (c : goal.Start) → length (total_text c.args.lines c.args.calls c.args.bits c.args.blocks) ≤ longest_total
+short c = total-short _ _ _ _ (search rules) (search rules) (search rules) (search rules)
+
+whole : (c : goal.Start) → Room c.args.buffer.now c.args.at (total_text c.args.lines c.args.calls c.args.bits c.args.blocks)
+whole c = record { fits = omega (arith, short c) }
+
+pub put_item-accepted-requires : goal.put_item-accepted-requires
+unfolding total_text
+put_item-accepted-requires c = next-room _ (whole c) left-all
+
+pub put_item-ciphered-requires : goal.put_item-ciphered-requires
+unfolding total_text
+put_item-ciphered-requires c = next-room _ (whole c) (left-next left-all c.put_item-accepted.ensures)
+
+pub put_pair-requires : goal.put_pair-requires
+unfolding total_text
+put_pair-requires c = left-room (whole c) (left-next (left-next left-all c.put_item-accepted.ensures) c.put_item-ciphered.ensures)
+
+pub returns : goal.returns
+unfolding total_text
+returns c =
+    let put = left-last (left-next (left-next left-all c.put_item-accepted.ensures) c.put_item-ciphered.ensures) c.put_pair.ensures in
+    (omega (arith, put.ends, short c), put)
+
+pub shape_of-buffer : goal.shape_of-buffer
+shape_of-buffer c = put-length (returns c).1

@@ -1,0 +1,21 @@
+-- `plain::call::write_blocks`: bits that were cleared and then xored are the keystream's. Assumes nothing.
+use mathlib.Core.List.{List}
+use mathlib.Core.Path.{ap, ◌∙◌}
+use Prim.Native.Nat.{ℕ}
+use borrow.Author.Rules.{rules}
+use Rattle.span.specs.Span.{xored, stream_bit}
+use Rattle.span.proofs.Laws.{xored-cleared}
+use Rattle.tea.specs.Keystream.{block_of}
+use Rattle.plain.proofs.call.write_blocks.Goals as goal
+
+pub returns : goal.returns
+returns c =
+    let ran = c in
+    let front = ran in
+    let a = front.args in
+    let k = stream_bit (block_of a.mode) in (
+      ran.xor_blocks.ensures.0
+          ∙ ap (λ (l : List ℕ). xored l k 0 a.skip a.n) front.clear_front.ensures
+          ∙ xored-cleared a.buf.now k 0 a.skip a.n,
+      ran.xor_blocks.ensures.1,
+    )

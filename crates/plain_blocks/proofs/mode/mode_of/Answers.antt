@@ -1,0 +1,8 @@
+-- `plain_blocks::mode::mode_of`: by the callees' contracts. Assumes nothing.
+use borrow.Author.Rules.{rules}
+use Rattle.tea.specs.Mode.{mode_of}
+use Rattle.plain_blocks.proofs.mode.mode_of.Goals as goal
+
+pub returns : goal.returns
+unfolding mode_of
+returns c = cc

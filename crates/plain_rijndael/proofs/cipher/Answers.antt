@@ -1,0 +1,12 @@
+-- `plain_rijndael::cipher`: by the callees' contracts. Assumes nothing.
+use mathlib.Core.Path.{◌∙◌}
+use borrow.Author.Rules.{rules}
+use Rattle.rijndael.specs.Cipher.{cipher, encrypted, to_block}
+use Rattle.plain_rijndael.proofs.cipher.Goals as goal
+
+pub returns : goal.returns
+unfolding cipher
+returns c =
+    let made = c in
+    c.to_block.ensures
+    ∙ (λ i. to_block ((c.encrypt.ensures ∙ (λ j. encrypted (made.key_expansion.ensures j) (made.to_state.ensures j))) i))

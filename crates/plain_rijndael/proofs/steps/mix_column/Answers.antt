@@ -1,0 +1,26 @@
+-- `plain_rijndael::steps::mix_column`: cell by cell. Assumes nothing.
+use mathlib.Core.List.{List}
+use Prim.Native.Nat.{ℕ, ◌+◌, ◌-◌, ◌%◌}
+use borrow.Author.Rules.{rules}
+use Rattle.round_steps.specs.Steps.{mixed_byte, mix_column}
+use Rattle.laws.proofs.States.{state-shape}
+use Rattle.laws.proofs.InRows.{InRow, InRows, in-rows-none, in-row-none, in-row-more, in-rows-more, in-rows-all}
+use Rattle.laws.specs.Lists.{cell}
+use Rattle.plain_rijndael.proofs.steps.mix_column.Goals as goal
+
+pub loop-c-preserved : goal.loop-c-preserved
+loop-c-preserved c =
+    let entered = c in
+    in-row-more entered.loop-c.invariant entered.loop-c-test.true _ c.mixed_byte.ensures
+
+pub loop-r-init : goal.loop-r-init
+loop-r-init c = in-rows-none (state-shape c.well_formed.0)
+
+pub loop-c-init : goal.loop-c-init
+loop-c-init c = in-row-none c.loop-r.invariant c.loop-r-test.true
+
+pub loop-r-preserved : goal.loop-r-preserved
+loop-r-preserved c = in-rows-more c.loop-c.invariant c.loop-c-test.false
+
+pub returns : goal.returns
+returns c = in-rows-all c.loop-r.invariant c.loop-r-test.false

@@ -1,0 +1,16 @@
+-- `reading::read_literal`: what is to be answered stays the same with each byte. Assumes nothing.
+use mathlib.Core.Path.{◌≡◌, refl, sym, ap, ◌∙◌}
+use Prim.Native.Nat.{◌≤◌, ◌-◌}
+use native.Mathlib.Omega.{arith}
+use lib.ListN.{length, drop}
+use borrow.Author.Rules.{rules}
+use Rattle.forms.specs.Form.{read_at, literal}
+use Rattle.reading.specs.Reading.{answer}
+use Rattle.reading.proofs.Steps.{on-wrong, on-good, literal-all, literal-end, literal-no, literal-yes}
+use Rattle.reading.proofs.read_literal.Given as goal
+
+abbrev pub invariant-loop-i : goal.invariant-loop-i
+invariant-loop-i l = (l.i ≤ length l.bytes) × (read_at (literal l.bytes) l.s l.initial.at ≡ read_at (literal (drop l.i l.bytes)) l.s l.at)
+
+abbrev pub decreases-loop-i : goal.decreases-loop-i
+decreases-loop-i l = length l.bytes - l.i

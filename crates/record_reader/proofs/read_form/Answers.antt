@@ -1,0 +1,20 @@
+-- `record_reader::read_form`: the line, where there has to be one. Assumes nothing.
+use mathlib.Core.Path.{ap, ◌∙◌}
+use borrow.Author.Rules.{rules}
+use borrow.Author.Tests.{not-true, not-false}
+use Rattle.writing.specs.Text.{ascii}
+use Rattle.forms.specs.Form.{literal}
+use Rattle.reading.specs.declared.Reading.{Reading}
+use Rattle.reading.specs.Reading.{onward, answer}
+use Rattle.record_reader.specs.Record.{opened}
+use Rattle.record_reader.proofs.read_form.Goals as goal
+
+pub returns-then-not-two : goal.returns-then-not-two
+unfolding opened
+returns-then-not-two c = rw (not-true c.args.two c.if-not-two.true) c.good_to.ensures
+
+pub returns : goal.returns
+unfolding opened
+returns c =
+    let good = c in
+    rw (not-false good.args.two good.if-not-two.false) (c.read_literal.ensures ∙ ap (λ (b : Reading). answer (onward b (literal (ascii "form=2\n")) good.args.text.now)) good.good_to-2.ensures)

@@ -1,0 +1,20 @@
+-- `record_reader::read_key`: what is to be answered stays the same with each byte. Assumes nothing.
+use mathlib.Core.Path.{◌≡◌, refl, sym, ap, ◌∙◌}
+use Prim.Native.Nat.{◌≤◌, ◌<◌, ◌-◌}
+use native.Mathlib.Omega.{arith}
+use lib.ListN.{length, take, length-set}
+use borrow.Author.Rules.{rules}
+use Rattle.forms.specs.Hexes.{byte}
+use Rattle.record_reader.specs.Lines.{key_form, key_answer}
+use Rattle.reading.specs.Reading.{onward}
+use Rattle.forms.proofs.Hexes.{byte-means}
+use Rattle.record_reader.proofs.Keys.{key_rest, key_more, key-all}
+use Rattle.reading.proofs.Steps.{on-wrong, on-good, on_then, on_value, step-done}
+use Rattle.record_reader.proofs.read_key.Given as goal
+
+abbrev pub invariant-loop-i : goal.invariant-loop-i
+invariant-loop-i l =
+    (i ≤ 24) × (length l.last ≡ 24) × (onward l.initial.last key_form l.s ≡ onward l.i (key_rest (take i l.last) (24 - i)) l.s)
+
+abbrev pub decreases-loop-i : goal.decreases-loop-i
+decreases-loop-i l = 24 - i

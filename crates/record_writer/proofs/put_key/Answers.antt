@@ -1,0 +1,27 @@
+-- `record_writer::put_key`: the name, the bytes, LF. Assumes nothing.
+use borrow.Author.Rules.{rules}
+use Rattle.writing.proofs.Puts.{put_then, put-length, room-first, room-then}
+use Rattle.record_writer.proofs.put_key.Goals as goal
+
+pub put_bytes-value-requires : goal.put_bytes-value-requires
+put_bytes-value-requires c = room-first _ c.requires
+
+pub put_hex-end-requires : goal.put_hex-end-requires
+put_hex-end-requires c =
+    let name = c in
+    room-first _ (room-then name.put_bytes-value.ensures name.requires)
+
+pub put_bytes-requires : goal.put_bytes-requires
+put_bytes-requires c =
+    let value = c in
+    let name = value in
+    room-then value.put_hex-end.ensures (room-then name.put_bytes-value.ensures name.requires)
+
+pub returns : goal.returns
+returns c =
+    let end = c in
+    let value = end in
+    put_then value.put_bytes-value.ensures (put_then value.put_hex-end.ensures end.put_bytes.ensures)
+
+pub shape_of-buffer : goal.shape_of-buffer
+shape_of-buffer c = put-length (returns c)

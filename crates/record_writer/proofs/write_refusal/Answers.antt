@@ -1,0 +1,40 @@
+-- `record_writer::write_refusal`: each test is the definition's, and so is their order; the length is the text's where no right is refused.
+-- Assumes nothing.
+use mathlib.Core.Bool.{not}
+use mathlib.Core.Path.{sym, ap, ◌∙◌}
+use Prim.Native.Nat.{ℕ}
+use lib.ListN.{length}
+use borrow.Author.Rules.{rules}
+use Rattle.laws.specs.Choice.{pick}
+use Rattle.refusals.specs.Numbers.{slot_number_bad, algorithm_unknown}
+use Rattle.fields.specs.Fields.{is_slot_number, is_algorithm, rights_refusal, stored_of}
+use Rattle.record_text.specs.Text.{record_text}
+use Rattle.record_text.proofs.Lengths.{text-length}
+use Rattle.record_writer.specs.Written.{write_refusal}
+use Rattle.record_writer.proofs.Refusals.{right, after-rights}
+use Rattle.record_writer.proofs.write_refusal.Goals as goal
+
+pub returns : goal.returns
+unfolding write_refusal
+returns c key size =
+    let three = c in
+    let two = three in
+    let one = two in
+    let known = one in
+    let numbered = known in
+    let long = numbered in
+    let rights = long in
+    let asked = rights.args.asked in
+    let number = rights.args.number in
+    rw (
+      c.refuse-4.ensures,
+      three.refuse-3.ensures,
+      two.refuse-2.ensures,
+      one.refuse.ensures,
+      known.is_algorithm.ensures,
+      numbered.is_slot_number.ensures,
+      rights.rights_refusal-rights.ensures,
+    )
+    (ap (λ (later : ℕ). pick (not (is_slot_number number)) slot_number_bad (pick (not (is_algorithm asked.algorithm)) algorithm_unknown later))
+    (after-rights (rights_refusal asked) rights.args.room _ (length (record_text number (stored_of asked) key))
+    (λ e. long.text_length-length.ensures ∙ sym (text-length number (stored_of asked) key (right asked e).side size))))

@@ -1,0 +1,17 @@
+-- `round_steps::add_round_key`: column by column, `Columns`. Assumes nothing.
+use mathlib.Core.Path.{ap}
+use Prim.Native.Nat.{◌+◌, ◌-◌, ◌*◌}
+use borrow.Author.Rules.{rules}
+use lib.Bits.{bit_xor}
+use lib.ListN.{get_or}
+use Rattle.round_steps.specs.Steps.{add_round_key}
+use Rattle.laws.proofs.States.{Columns, columns-none, columns-more, columns-all, state-shape}
+use Rattle.laws.specs.Lists.{cell}
+use Rattle.words.specs.Words.{byte_of}
+use Rattle.round_steps.proofs.add_round_key.Given as goal
+
+abbrev pub invariant-loop-c : goal.invariant-loop-c
+invariant-loop-c l = Columns (λ r k. bit_xor (cell l.s r k) (byte_of (get_or l.w (8 * l.n + k) 0) r)) l.t l.c
+
+abbrev pub decreases-loop-c : goal.decreases-loop-c
+decreases-loop-c l = 8 - l.c

@@ -1,0 +1,20 @@
+-- `rounds::packing::keyed_words`: word by word, `Packed`. Assumes nothing.
+use mathlib.Core.Path.{refl}
+use Prim.Native.Nat.{◌-◌}
+use borrow.Author.Rules.{rules}
+use Rattle.round_steps.specs.Steps.{add_round_key}
+use Rattle.rounds.proofs.Columns.{Packed, first_keyed, pack-none, pack-all, keyed-more}
+use Rattle.rounds.proofs.packing.keyed_words.Goals as goal
+
+pub loop-c-init : goal.loop-c-init
+loop-c-init c = pack-none refl
+
+pub loop-c-preserved : goal.loop-c-preserved
+loop-c-preserved c =
+    let test = c in
+    let a = test.args in
+    keyed-more a.w.now a.s test.loop-c.invariant test.loop-c-test.true _ c.column_word.ensures
+
+pub returns : goal.returns
+unfolding add_round_key
+returns c = pack-all _ c.loop-c.invariant c.loop-c-test.false

@@ -1,0 +1,8 @@
+-- `schedule::expand_key`: the two loops, one after the other. Assumes nothing.
+use borrow.Author.Rules.{rules}
+use lib.Dec.{lit≤}
+use Rattle.laws.proofs.Lists.{fill-all}
+use Rattle.schedule.proofs.expand_key.Goals as goal
+
+pub returns : goal.returns
+returns c = fill-all (c.more_words.ensures.1 _ c.key_words.ensures) (lit≤ tt)

@@ -1,0 +1,15 @@
+-- `schedule::key_words`: `Filled` to 6. Assumes nothing.
+use mathlib.Core.Path.{◌∙◌}
+use Prim.Native.Nat.{◌-◌, ◌≤◌}
+use borrow.Author.Rules.{rules}
+use Rattle.schedule.specs.Schedule.{packed, key_word}
+use Rattle.laws.proofs.Lists.{fill_none, fill_more, fill-to}
+use Rattle.laws.specs.Lists.{Filled}
+use Rattle.schedule.proofs.KeyWords.{word_first}
+use Rattle.schedule.proofs.key_words.Given as goal
+
+abbrev pub invariant-loop-i : goal.invariant-loop-i
+invariant-loop-i l = (l.i ≤ 6) × Filled (key_word l.key) 0 120 l.w l.i
+
+abbrev pub decreases-loop-i : goal.decreases-loop-i
+decreases-loop-i l = 6 - l.i

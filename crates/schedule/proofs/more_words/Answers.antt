@@ -1,0 +1,25 @@
+-- `schedule::more_words`: `Filled` to 6 k, whatever the key, and `last` is word 6 k - 1. Assumes nothing.
+use mathlib.Core.List.{List}
+use mathlib.Core.Path.{◌≡◌, refl}
+use Prim.Native.Nat.{ℕ, ◌+◌, ◌-◌, ◌*◌, ◌≤◌}
+use native.Mathlib.Omega.{arith}
+use borrow.Author.Rules.{rules}
+use lib.ListN.{length, get_or}
+use Rattle.schedule.specs.Schedule.{key_word}
+use Rattle.laws.proofs.Lists.{fill-to}
+use Rattle.laws.specs.Lists.{Filled}
+use Rattle.schedule.proofs.more_words.Goals as goal
+
+pub loop-k-init : goal.loop-k-init
+loop-k-init c = (search rules, (search rules, (refl, λ key g. g)))
+
+pub loop-k-preserved : goal.loop-k-preserved
+loop-k-preserved c =
+    let at = c in
+    let g = at.loop-k.invariant in
+    let e = c.six_words-last.ensures in
+    let q : 6 * (at.loop-k.k + 1) - 1 ≡ 6 * at.loop-k.k + 5 = omega arith in
+    (search rules, (search rules, (rw q e.1.0, λ key h. fill-to (e.1.1 key (g.1.1.1 key h)) (omega arith))))
+
+pub returns : goal.returns
+returns c = (search rules, λ key g. fill-to (c.loop-k.invariant.1.1.1 key g) (omega arith))

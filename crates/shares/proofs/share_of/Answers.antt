@@ -1,0 +1,29 @@
+-- `shares::share_of`: by the test of the whole; the divisor of a whole above 0 is above 0. Assumes nothing.
+use mathlib.Core.Path.{◌≡◌, sym, subst, ap, ◌∙◌}
+use Prim.Native.Nat.{ℕ, ◌<◌, ◌/◌}
+use native.Mathlib.Nat.{pos_of_dvd_of_pos}
+use borrow.Author.Tests.{eq-eqb, ne_eqb}
+use Rattle.shares.specs.Share.{gcd, fraction_of, share_of}
+use Rattle.shares.proofs.Euclid.{gcd-divides}
+use Rattle.shares.proofs.Lowest.{positive_of}
+use borrow.Author.Rules.{rules}
+use Rattle.shares.proofs.share_of.Goals as goal
+
+above : (c : goal.After-gcd-divisor) → 0 < c.gcd-divisor.result
+above c =
+    subst (λ (g : ℕ). 0 < g) (sym c.gcd-divisor.ensures)
+    (pos_of_dvd_of_pos (gcd-divides _ _).1 (positive_of _ c.if-whole-eq0.false))
+
+pub returns-then-whole-eq0 : goal.returns-then-whole-eq0
+unfolding share_of
+returns-then-whole-eq0 c = rw (eq-eqb _ _ c.if-whole-eq0.true) c.fraction.ensures
+
+pub nonzero_div-part : goal.nonzero_div-part
+nonzero_div-part c = above c
+
+pub nonzero_div-whole : goal.nonzero_div-whole
+nonzero_div-whole c = above c
+
+pub returns : goal.returns
+unfolding share_of
+returns c = rw (ne_eqb _ _ c.if-whole-eq0.false) (c.fraction-2.ensures ∙ ap (λ (g : ℕ). fraction_of (c.args.part / g) (c.args.whole / g)) c.gcd-divisor.ensures)

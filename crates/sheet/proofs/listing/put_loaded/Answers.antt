@@ -1,0 +1,20 @@
+-- `listing::put_loaded`: the text by the test that led to it. Assumes nothing.
+use mathlib.Core.Path.{sym}
+use borrow.Author.Rules.{rules}
+use Rattle.writing.proofs.Puts.{put_as}
+use Rattle.sheet.proofs.Lines.{text-loaded, text-refused}
+use Rattle.sheet.proofs.listing.put_loaded.Goals as goal
+
+pub returns-then-loaded-ne-DONE : goal.returns-then-loaded-ne-DONE
+returns-then-loaded-ne-DONE c =
+    let call = c in
+    let test = call in
+    let put = call.put_refusal.ensures in
+    (put.0, put_as (sym (text-refused test.args.loaded test.if-loaded-ne-DONE.true)) put.1)
+
+pub returns : goal.returns
+returns c =
+    let call = c in
+    let test = call in
+    let put = call.put_table.ensures in
+    (put.0, put_as (sym (text-loaded test.args.loaded test.if-loaded-ne-DONE.false)) put.1)

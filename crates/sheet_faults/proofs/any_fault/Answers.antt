@@ -1,0 +1,35 @@
+-- `sheet_faults::any_fault`: what is to be answered stays the same with each line. Assumes nothing.
+use mathlib.Core.Path.{◌≡◌, refl, sym, ap, ◌∙◌}
+use Prim.Native.Nat.{◌-◌, ◌≤◌}
+use native.Mathlib.Omega.{arith}
+use lib.ListN.{length, drop}
+use borrow.Author.Rules.{rules}
+use Rattle.sheet_faults.specs.Sheet.{lines_of, any_fault}
+use Rattle.sheet_faults.proofs.Lines.{lines_end, fault-here, fault-on}
+use Rattle.sheet_faults.proofs.any_fault.Goals as goal
+
+pub returns-then-has_fault : goal.returns-then-has_fault
+returns-then-has_fault c =
+    let line = c in
+    let test = line in
+    sym (test.loop-at.invariant.1
+    ∙ fault-here _ _ test.loop-at-test.true line.line_at_lem.ensures test.args.fault (sym c.has_fault.ensures ∙ c.if-has_fault.true))
+
+pub loop-at-preserved : goal.loop-at-preserved
+loop-at-preserved c =
+    let line = c in
+    let test = line in (
+      c.next_line-next.ensures.2,
+      test.loop-at.invariant.1
+          ∙ fault-on _ _ test.loop-at-test.true line.line_at_lem.ensures c.next_line-next.ensures.0 test.args.fault (sym c.has_fault.ensures ∙ c.if-has_fault.false),
+    )
+
+pub returns : goal.returns
+unfolding any_fault
+returns c =
+    let loop = c in
+    let args = loop.args in
+    sym (loop.loop-at.invariant.1 ∙ ap (any_fault args.fault) (lines_end args.text.now loop.loop-at.at c.loop-at-test.false))
+
+pub loop-at-init : goal.loop-at-init
+loop-at-init c = (omega arith, refl)

@@ -1,0 +1,38 @@
+-- `sheet_faults::value_named`: what is to be answered stays the same with each line. Assumes nothing.
+use mathlib.Core.Path.{◌≡◌, refl, sym, ap, ◌∙◌}
+use Prim.Native.Nat.{◌-◌, ◌≤◌}
+use native.Mathlib.Omega.{arith}
+use lib.ListN.{length, drop}
+use lib.Seq.{drop-length}
+use borrow.Author.Rules.{rules}
+use Rattle.sheet_faults.specs.Sheet.{lines_of, value_named}
+use Rattle.sheet_faults.proofs.Lines.{lines_end, value-here, value_on}
+use Rattle.sheet_faults.proofs.value_named.Goals as goal
+
+pub returns-then-number_in-k : goal.returns-then-number_in-k
+returns-then-number_in-k c =
+    let line = c in
+    let test = line in
+    c.value_in.ensures
+    ∙ sym (test.loop-at.invariant.1
+    ∙ value-here _ _ test.loop-at-test.true line.line_at_lem.ensures (sym c.number_in.ensures ∙ c.if-number_in-k.true))
+
+pub loop-at-preserved : goal.loop-at-preserved
+loop-at-preserved c =
+    let line = c in
+    let test = line in (
+      c.next_line-next.ensures.2,
+      test.loop-at.invariant.1
+          ∙ value_on _ _ test.loop-at-test.true line.line_at_lem.ensures c.next_line-next.ensures.0 (λ e. c.if-number_in-k.false (c.number_in.ensures ∙ e)),
+    )
+
+pub returns : goal.returns
+unfolding value_named
+returns c =
+    let loop = c in
+    let args = loop.args in
+    c.rest.ensures ∙ drop-length args.text.now
+    ∙ sym (loop.loop-at.invariant.1 ∙ ap (value_named args.k) (lines_end args.text.now loop.loop-at.at c.loop-at-test.false))
+
+pub loop-at-init : goal.loop-at-init
+loop-at-init c = (omega arith, refl)

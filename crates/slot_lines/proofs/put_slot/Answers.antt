@@ -1,0 +1,27 @@
+-- `slot_lines::put_slot`: the line where the slot is filled. Assumes nothing.
+use mathlib.Core.Path.{◌≡◌, sym, ◌∙◌}
+use mathlib.Core.Bool.{true}
+use native.Mathlib.Omega.{arith}
+use borrow.Author.Rules.{rules}
+use Rattle.slots.specs.Slots.{is_filled}
+use Rattle.writing.proofs.Puts.{put_as, put-none}
+use Rattle.slot_lines.proofs.Lines.{filled-text, empty-text}
+use Rattle.slot_lines.proofs.put_slot.Goals as goal
+
+is-filled : (c : goal.Then-is_filled) → is_filled c.args.slot ≡ true
+is-filled c = sym c.is_filled.ensures ∙ c.if-is_filled.true
+
+pub put_slot_line-requires : goal.put_slot_line-requires
+unfolding is_filled
+put_slot_line-requires c =
+    let test = c in
+    let pre = test.requires in
+    (pre.0, pre.1, is-filled test)
+
+pub returns-then-is_filled : goal.returns-then-is_filled
+returns-then-is_filled c =
+    let call = c in
+    (call.put_slot_line.ensures.0, put_as (sym (filled-text _ _ (is-filled call))) call.put_slot_line.ensures.1)
+
+pub returns : goal.returns
+returns c = (omega arith, put_as (sym (empty-text _ _ (sym c.is_filled.ensures ∙ c.if-is_filled.false))) (put-none _ _))

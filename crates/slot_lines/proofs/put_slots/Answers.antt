@@ -1,0 +1,34 @@
+-- `slot_lines::put_slots`: with each slot its text is no longer left. Assumes nothing.
+use Prim.Native.Nat.{◌≤◌, ◌+◌, ◌-◌, ◌*◌}
+use native.Mathlib.Omega.{arith}
+use borrow.Author.Rules.{rules}
+use lib.ListN.{drop}
+use Rattle.writing.proofs.Puts.{put-length}
+use Rattle.slot_lines.specs.Lines.{slot_lines, longest_line}
+use Rattle.writing.proofs.Left.{Left, left-all, left_as, left-next, left-none}
+use Rattle.slot_lines.proofs.Lines.{lines_next, lines_none}
+use Rattle.slot_lines.proofs.put_slots.Goals as goal
+
+pub loop-i-init : goal.loop-i-init
+loop-i-init c = (omega arith, omega arith, left-all)
+
+pub put_slot-next-requires : goal.put_slot-next-requires
+put_slot-next-requires c =
+    let loop = c in
+    let size = loop.loop-i.invariant.2.size in
+    (omega arith, omega arith)
+
+pub loop-i-preserved : goal.loop-i-preserved
+loop-i-preserved c =
+    let call = c in
+    let loop = call in
+    let put = call.put_slot-next.ensures in
+    (omega arith, omega (arith, put.0), left-next (left_as (lines_next loop.args.table loop.loop-i.i (search rules)) loop.loop-i.invariant.2) put.1)
+
+pub returns : goal.returns
+returns c =
+    let loop = c in
+    (omega arith, left-none (left_as (lines_none loop.args.table loop.loop-i.i (search rules)) loop.loop-i.invariant.2))
+
+pub shape_of-buffer : goal.shape_of-buffer
+shape_of-buffer c = put-length (returns c).1

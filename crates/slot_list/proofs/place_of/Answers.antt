@@ -1,0 +1,25 @@
+-- `slot_list::place_of`: by the two tests. Assumes nothing.
+use mathlib.Core.Bool.{true}
+use mathlib.Core.Path.{◌≡◌, sym, ◌∙◌}
+use borrow.Author.Rules.{rules}
+use borrow.Author.Tests.{eq-eqb, ne_eqb, not-true, not-false}
+use Rattle.fields.specs.Fields.{is_slot_number}
+use Rattle.fields.proofs.Ranges.{between-low}
+use Rattle.slot_list.proofs.place_of.Goals as goal
+
+pub returns-then-count-ne32 : goal.returns-then-count-ne32
+returns-then-count-ne32 c = rw (ne_eqb _ 32 c.if-count-ne32.true)
+
+pub returns-then-not-is_slot_number : goal.returns-then-not-is_slot_number
+returns-then-not-is_slot_number c =
+    let n = c in
+    rw (eq-eqb _ 32 n.if-count-ne32.false, sym n.is_slot_number.ensures ∙ not-true _ c.if-not-is_slot_number.true)
+
+numbered : (c : goal.Else-not-is_slot_number) → is_slot_number c.args.number ≡ true
+numbered c = sym c.is_slot_number.ensures ∙ not-false _ c.if-not-is_slot_number.false
+
+pub returns : goal.returns
+returns c = rw (eq-eqb _ 32 c.if-count-ne32.false, numbered c)
+
+pub overflow_sub-result : goal.overflow_sub-result
+overflow_sub-result c = between-low 1 _ 32 (numbered c)

@@ -1,0 +1,6 @@
+-- `slot_puts::clear_of`: by what is called. Assumes nothing.
+use borrow.Author.Rules.{rules}
+use Rattle.slot_puts.proofs.clear_of.Goals as goal
+
+pub returns : goal.returns
+returns c = rw (c.clear_refusal-refusal.ensures, c.empty_slot.ensures)

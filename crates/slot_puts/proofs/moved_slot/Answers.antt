@@ -1,0 +1,17 @@
+-- `slot_puts::moved_slot`: a use that stays within another is a use, and fits a byte. Assumes nothing.
+use native.Mathlib.Omega.{arith}
+use borrow.Author.Rules.{rules}
+use Rattle.laws.proofs.Cases.{and_left}
+use Rattle.fields.specs.Fields.{is_use}
+use Rattle.fields.proofs.Ranges.{between-high}
+use Rattle.rights.specs.Rights.{moved_use}
+use Rattle.slot_puts.proofs.moved_slot.Goals as goal
+
+pub overflow_cast-fields : goal.overflow_cast-fields
+overflow_cast-fields c =
+    let s = c in
+    let u = moved_use s.args.slot.fields.usage s.args.asked in
+    omega (arith, c.moved_use.ensures, between-high 1 u 3 (and_left (is_use u) _ s.requires))
+
+pub returns : goal.returns
+returns c = rw c.moved_use.ensures

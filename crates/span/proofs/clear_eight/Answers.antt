@@ -1,0 +1,12 @@
+-- The last bits of one byte and the first bits of the next are cleared. Assumes nothing.
+use native.Mathlib.Omega.{arith}
+use borrow.Author.Rules.{rules}
+use Rattle.span.proofs.Stores.{eight-cleared}
+use Rattle.span.proofs.clear_eight.Goals as goal
+
+pub returns : goal.returns
+returns c =
+    let known = c in
+    let a = known.args in
+    rw (c.first_off.ensures, c.last_off.ensures)
+    (eight-cleared a.z.now a.i (omega arith) (λ q. omega (arith, known.slice_known-1.given q)))

@@ -1,0 +1,23 @@
+-- `table_calls::load`: by what is seen of the table. Assumes nothing.
+use mathlib.Core.Path.{◌≡◌, sym, ap, ◌∙◌}
+use borrow.Author.Rules.{rules}
+use Rattle.slot_calls.specs.declared.Put.{Put}
+use Rattle.slots.specs.Slots.{keyless}
+use Rattle.slot_calls.specs.Seen.{load_put, changed_by}
+use Rattle.slot_calls.proofs.AsSeen.{slot-there}
+use Rattle.slot_calls.proofs.Puts.{load-put}
+use Rattle.slot_calls.proofs.Passed.{load-passed-of}
+use Rattle.table_calls.proofs.load.Goals as goal
+
+pub returns : goal.returns
+returns c =
+    let put = c in
+    let slot = put in
+    let a = slot.args in
+    c.put_to.ensures
+    ∙ ap (changed_by a.table a.number)
+    (put.load_of-put.ensures ∙ (λ i. load_put (slot.table_is_bad.ensures i) (keyless (slot.fields_or_none.ensures i)) a.number a.asked a.key))
+    ∙ load-put _ a.table a.number _ (slot-there a.table a.number) a.asked a.key
+
+pub put_to-requires : goal.put_to-requires
+put_to-requires = (λ c κs e. (load-passed-of _ _ _ _ (sym (ap (λ (p : Put). p.refusal) c.load_of-put.ensures) ∙ e)).numbered)

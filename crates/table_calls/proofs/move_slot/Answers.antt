@@ -1,0 +1,61 @@
+-- `table_calls::move_slot`: by what is seen of the table. Assumes nothing.
+use mathlib.Core.Bool.{Bool, true}
+use mathlib.Core.Path.{◌≡◌, sym, ap, ◌∙◌}
+use Prim.Native.Nat.{ℕ}
+use borrow.Author.Rules.{rules}
+use Rattle.laws.specs.Choice.{pick}
+use Rattle.refusals.specs.Numbers.{done}
+use Rattle.slots.specs.declared.Slot.{Slot}
+use Rattle.slot_calls.specs.declared.Put.{Put}
+use Rattle.slots.specs.Slots.{has_bad, empty, keyless, slot_at}
+use Rattle.rights.specs.Rights.{stays_within}
+use Rattle.slot_calls.specs.Calls.{move_refusal_of}
+use Rattle.slot_calls.specs.Seen.{slot_as, move_put, emptied_by, put_to, changed_by}
+use Rattle.slot_calls.proofs.AsSeen.{slot-there}
+use Rattle.slot_calls.proofs.Puts.{move-put}
+use Rattle.slot_calls.proofs.Passed.{MovePassedOf, move-passed-of}
+use Rattle.table_calls.proofs.move_slot.Goals as goal
+
+abbrev refusal : Put → ℕ
+refusal p = p.refusal
+
+-- the refusal, by what the table shows
+
+abbrev start : goal.After-move_refusal-refusal → goal.Start
+start c = c
+
+abbrev answer : goal.Start → ℕ
+answer s = let a = s.args in move_refusal_of (has_bad a.table) (keyless (slot_as a.table a.from).fields) (keyless (slot_as a.table a.to).fields) a.from a.to a.asked
+
+answered : (c : goal.After-move_refusal-refusal) → c.move_refusal-refusal.result ≡ answer (start c)
+answered c =
+    let a = (start c).args in
+    c.move_refusal-refusal.ensures
+    ∙ (λ i. move_refusal_of (c.table_is_bad.ensures i) (keyless (c.fields_or_none.ensures i)) (keyless (c.fields_or_none-2.ensures i)) a.from a.to a.asked)
+
+passed : (c : goal.After-move_refusal-refusal) → c.move_refusal-refusal.result ≡ done
+    → let a = (start c).args in MovePassedOf (has_bad a.table) (keyless (slot_as a.table a.from).fields) (keyless (slot_as a.table a.to).fields) a.from a.to a.asked
+passed c e = move-passed-of _ _ _ _ _ _ (sym (answered c) ∙ e)
+
+pub move_of-put-requires : goal.move_of-put-requires
+move_of-put-requires c e = ap (λ (s : Slot). stays_within s.fields.usage (start c).args.asked) c.slot_or_empty.ensures ∙ (passed c e).narrow
+
+pub returns : goal.returns
+returns c =
+    let empties = c in
+    let put = empties in
+    let slot = put in
+    let judged = slot in
+    let a = (start judged).args in
+    let made = put.move_of-put.ensures ∙ (λ i. move_put (answered judged i) (slot.slot_or_empty.ensures i) a.asked) in
+    c.put_to.ensures
+    ∙ (λ i. changed_by (empties.put_to-carried.ensures i).table a.from (empties.emptied.ensures i))
+    ∙ (λ i. changed_by (put_to a.table a.to (made i)) a.from (emptied_by (made i)))
+    ∙ move-put (has_bad a.table) a.table a.from a.to a.asked _ _ (slot-there a.table a.from) (slot-there a.table a.to) (slot_as a.table a.from)
+    (λ e. ap (λ (n : Bool). pick n (slot_at a.table a.from) empty) (passed judged (answered judged ∙ e)).from-numbered)
+
+pub put_to-carried-requires : goal.put_to-carried-requires
+put_to-carried-requires = (λ c κs e. (passed c (sym (ap refusal c.move_of-put.ensures) ∙ e)).to-numbered)
+
+pub put_to-requires : goal.put_to-requires
+put_to-requires = (λ c κs e. (passed c (sym (ap refusal c.move_of-put.ensures) ∙ sym (ap refusal c.emptied.ensures) ∙ e)).from-numbered)

@@ -1,0 +1,15 @@
+-- `table_calls::read`: by what is seen of the table. Assumes nothing.
+use mathlib.Core.Path.{◌∙◌}
+use borrow.Author.Rules.{rules}
+use Rattle.slots.specs.Slots.{keyless}
+use Rattle.slot_calls.specs.Calls.{shown_of}
+use Rattle.slot_calls.proofs.AsSeen.{slot-there, shown-seen}
+use Rattle.table_calls.proofs.read.Goals as goal
+
+pub returns : goal.returns
+returns c =
+    let slot = c in
+    let a = slot.args in
+    c.Read-of.ensures
+    ∙ (λ i. shown_of (slot.table_is_bad.ensures i) (keyless (slot.fields_or_none.ensures i)) a.number)
+    ∙ shown-seen _ a.number _ _ (slot-there a.table a.number)

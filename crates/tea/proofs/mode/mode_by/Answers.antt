@@ -1,0 +1,17 @@
+-- `tea::mode::mode_by`: both lists are filled side by side. Assumes nothing.
+use Prim.Native.Nat.{◌-◌}
+use borrow.Author.Rules.{rules}
+use Rattle.tea.proofs.Halves.{Halves, halves-none, halves-more, halves-all}
+use Rattle.tea.proofs.mode.mode_by.Goals as goal
+
+pub loop-k-preserved : goal.loop-k-preserved
+loop-k-preserved c =
+    let low = c in
+    let turn = low in
+    halves-more turn.loop-k.invariant turn.loop-k-test.true _ _ _ _ low.combine_high-x.ensures low.combine_low-y.ensures c.high_halves.ensures c.low_halves.ensures
+
+pub loop-k-init : goal.loop-k-init
+loop-k-init c = halves-none
+
+pub returns : goal.returns
+returns c = halves-all _ c.loop-k.invariant c.loop-k-test.false

@@ -1,0 +1,11 @@
+-- `tea::mode::mode_by`: both lists are filled side by side. Assumes nothing.
+use Prim.Native.Nat.{◌-◌}
+use borrow.Author.Rules.{rules}
+use Rattle.tea.proofs.Halves.{Halves, halves-none, halves-more, halves-all}
+use Rattle.tea.proofs.mode.mode_by.Given as goal
+
+abbrev pub invariant-loop-k : goal.invariant-loop-k
+invariant-loop-k l = Halves l.f l.ck l.ivx l.ckm l.ivm l.k
+
+abbrev pub decreases-loop-k : goal.decreases-loop-k
+decreases-loop-k l = 24 - l.k

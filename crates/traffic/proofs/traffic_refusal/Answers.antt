@@ -1,0 +1,10 @@
+-- `traffic::traffic_refusal`: the slot's refusals, and then the span's. Assumes nothing.
+use borrow.Author.Rules.{rules}
+use Rattle.traffic.specs.Traffic.{traffic_refusal_of}
+use Rattle.traffic.proofs.traffic_refusal.Goals as goal
+
+pub returns : goal.returns
+unfolding traffic_refusal_of
+returns c =
+    let span = c in
+    rw (c.refuse.ensures, span.span_refusal.ensures, span.use_refusal-use_refusal.ensures)

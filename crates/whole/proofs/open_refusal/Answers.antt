@@ -1,0 +1,10 @@
+-- `whole::open_refusal`: the slot's refusals, and then the buffer's. Assumes nothing.
+use borrow.Author.Rules.{rules}
+use Rattle.whole.specs.Whole.{open_refusal_of}
+use Rattle.whole.proofs.open_refusal.Goals as goal
+
+pub returns : goal.returns
+unfolding open_refusal_of
+returns c =
+    let room = c in
+    rw (c.refuse.ensures, room.room_refusal.ensures, room.use_refusal-use_refusal.ensures)

@@ -1,0 +1,18 @@
+-- `writing::digit_count`: the digits counted and those left are all of them. Assumes nothing.
+use mathlib.Core.Path.{◌≡◌}
+use Prim.Native.Nat.{◌≤◌, ◌+◌}
+use native.Mathlib.Omega.{arith}
+use lib.ListN.{length}
+use borrow.Author.Rules.{rules}
+use Rattle.writing.specs.Text.{digits}
+use Rattle.writing.proofs.Digits.{length-one, length-ten}
+use Rattle.writing.proofs.digit_count.Goals as goal
+
+pub loop-left-init : goal.loop-left-init
+loop-left-init c = (omega arith, omega arith)
+
+pub loop-left-preserved : goal.loop-left-preserved
+loop-left-preserved c = (omega arith, omega (arith, length-ten c.loop-left.left c.loop-left-test.true))
+
+pub returns : goal.returns
+returns c = omega (arith, length-one c.loop-left.left c.loop-left-test.false)

@@ -1,0 +1,22 @@
+-- `writing::put_word_line`: the name and the word, and then LF. Assumes nothing.
+use mathlib.Core.List.{[], ◌∷◌}
+use borrow.Author.Rules.{rules}
+use Rattle.writing.specs.Text.{lf}
+use Rattle.writing.proofs.Puts.{put-length, ended-first, ended-then, ended-put}
+use Rattle.writing.proofs.put_word_line.Goals as goal
+
+pub returns : goal.returns
+returns c =
+    let item = c in
+    let a = item.args in
+    ended-put a.name.now a.word _ item.put_word_item-end.ensures c.put_bytes.ensures
+
+pub put_bytes-requires : goal.put_bytes-requires
+put_bytes-requires c = let item = c in
+    let s = item in
+    ended-then s.args.name.now s.args.word (lf ∷ []) item.put_word_item-end.ensures s.requires
+
+pub shape_of-buffer : goal.shape_of-buffer
+shape_of-buffer c = put-length (returns c)
+
+-- UNPLACED unplaced between goals ['put_word_item-end-requires', 'put_bytes-requires', 'shape_of-buffer']: (λ c κs. let s = c.before.before.before in ended-first s.args.name.now s.args.word (lf ∷ []) s.requires)
