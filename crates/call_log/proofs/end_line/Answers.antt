@@ -14,11 +14,11 @@ returns-then-m-gt-MOST_LINES c = rw (lt-leb _ _ c.if-m-gt-MOST_LINES.true) (ap (
 
 pub returns-then-not-is_sound : goal.returns-then-not-is_sound
 unfolding ended taken
-returns-then-not-is_sound c = rw (le-leb _ _ c.if-m-gt-MOST_LINES.false, sym (ap is_sound c.call_of-c.ensures) ∙ (sym c.is_sound.ensures ∙ not-true _ c.if-not-is_sound.true)) (ap (λ m. fed_to m c.args.figures.now) c.stopped-then-not-is_sound.ensures)
+returns-then-not-is_sound c = rw (le-leb _ _ c.if-m-gt-MOST_LINES.false, sym (ap is_sound c.call_of-c.ensures) ∙ (sym c.is_sound.ensures ∙ c.if-not-is_sound.true)) (ap (λ m. fed_to m c.args.figures.now) c.stopped-then-not-is_sound.ensures)
 
 pub add-requires : goal.add-requires
-add-requires c = sym c.is_sound.ensures ∙ not-false _ c.if-not-is_sound.false
+add-requires c = sym c.is_sound.ensures ∙ c.if-not-is_sound.false
 
 pub returns : goal.returns
 unfolding ended taken
-returns c = rw (le-leb _ _ c.if-m-gt-MOST_LINES.false, sym (ap is_sound c.call_of-c.ensures) ∙ (sym c.is_sound.ensures ∙ not-false _ c.if-not-is_sound.false)) (λ i. fed_to (c.line_start.ensures i) ((c.add.ensures ∙ ap (added c.args.figures.now) c.call_of-c.ensures) i))
+returns c = rw (le-leb _ _ c.if-m-gt-MOST_LINES.false, sym (ap is_sound c.call_of-c.ensures) ∙ (sym c.is_sound.ensures ∙ c.if-not-is_sound.false)) (λ i. fed_to (c.line_start.ensures i) ((c.add.ensures ∙ ap (added c.args.figures.now) c.call_of-c.ensures) i))

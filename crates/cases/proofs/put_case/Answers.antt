@@ -14,7 +14,7 @@ use Rattle.cases.proofs.put_case.Goals as goal
 pub returns-then-not-is_readable : goal.returns-then-not-is_readable
 returns-then-not-is_readable c =
     let put = c.put_bytes.ensures in
-    (omega (arith, put.ends), put_as (text-unreadable _ (sym c.is_readable.ensures ∙ not-true _ c.if-not-is_readable.true)) put)
+    (omega (arith, put.ends), put_as (text-unreadable _ (sym c.is_readable.ensures ∙ c.if-not-is_readable.true)) put)
 
 short : (c : goal.After-case_refusal-refusal) → length (refused_text c.case_refusal-refusal.result) ≤ answer_room
 short c = refused-fits c.case_refusal-refusal.result (omega arith)
@@ -26,13 +26,13 @@ pub returns-then-refusal-ne-DONE : goal.returns-then-refusal-ne-DONE
 returns-then-refusal-ne-DONE c =
     let put = c.put_line.ensures in
     let refused = c.case_refusal-refusal.ensures in
-    let readable = sym c.is_readable.ensures ∙ not-false _ c.if-not-is_readable.false in
+    let readable = sym c.is_readable.ensures ∙ c.if-not-is_readable.false in
     (omega (arith, put.ends, short c), put_as (ap refused_text refused ∙ text-refused _ readable (λ z. c.if-refusal-ne-DONE.true (refused ∙ z))) put)
 
 accepted : (c : goal.Else-refusal-ne-DONE) → Accepted c.args.line.now
 accepted c =
     record {
-      readable = sym c.is_readable.ensures ∙ not-false _ c.if-not-is_readable.false;
+      readable = sym c.is_readable.ensures ∙ c.if-not-is_readable.false;
       passed = sym c.case_refusal-refusal.ensures ∙ c.if-refusal-ne-DONE.false;
     }
 

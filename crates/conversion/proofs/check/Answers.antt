@@ -10,7 +10,7 @@ pub returns-then-not-b : goal.returns-then-not-b
 unfolding conversion_checked
 returns-then-not-b c =
     let read = c in
-    rw (ap (λ (g : Gathered). g.good) (sym read.gather-b.ensures) ∙ not-true _ c.if-not-b.true) c.answer.ensures
+    rw (ap (λ (g : Gathered). g.good) (sym read.gather-b.ensures) ∙ c.if-not-b.true) c.answer.ensures
 
 pub returns-then-not-a : goal.returns-then-not-a
 unfolding conversion_checked
@@ -18,8 +18,8 @@ returns-then-not-a c =
     let first = c in
     let both = first in
     rw (
-      ap (λ (g : Gathered). g.good) (sym both.gather-b.ensures) ∙ not-false _ first.if-not-b.false,
-      ap (λ (g : Gathered). g.good) (sym both.gather-a.ensures) ∙ not-true _ c.if-not-a.true,
+      ap (λ (g : Gathered). g.good) (sym both.gather-b.ensures) ∙ first.if-not-b.false,
+      ap (λ (g : Gathered). g.good) (sym both.gather-a.ensures) ∙ c.if-not-a.true,
     )
     c.answer-then-not-a.ensures
 
@@ -32,7 +32,7 @@ returns c =
     let old = both.gather-b.ensures in
     let new = both.gather-a.ensures in
     rw (
-      ap (λ (g : Gathered). g.good) (sym old) ∙ not-false _ first.if-not-b.false,
-      ap (λ (g : Gathered). g.good) (sym new) ∙ not-false _ second.if-not-a.false,
+      ap (λ (g : Gathered). g.good) (sym old) ∙ first.if-not-b.false,
+      ap (λ (g : Gathered). g.good) (sym new) ∙ second.if-not-a.false,
     )
     (c.check_pairs.ensures ∙ (λ i. pairs_checked (old i).table (new i).table both.args.pairs.now))

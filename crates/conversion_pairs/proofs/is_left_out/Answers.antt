@@ -8,7 +8,7 @@ use Rattle.conversion_pairs.proofs.is_left_out.Goals as goal
 
 pub returns-then-not-is_there : goal.returns-then-not-is_there
 unfolding left_out
-returns-then-not-is_there c = rw (sym c.is_there.ensures ∙ not-true _ c.if-not-is_there.true)
+returns-then-not-is_there c = rw (sym c.is_there.ensures ∙ c.if-not-is_there.true)
 
 pub returns : goal.returns
 unfolding left_out
@@ -16,5 +16,5 @@ returns c =
     let count = c in
     let there = count in
     let args = there.args in
-    rw (sym there.is_there.ensures ∙ not-false _ count.if-not-is_there.false)
+    rw (sym there.is_there.ensures ∙ count.if-not-is_there.false)
     (ap not (c.is_named.ensures ∙ ap (named_on 1 args.pairs.now args.n) count.pair_count.ensures))

@@ -9,7 +9,7 @@ pub returns-then-not-is_there : goal.returns-then-not-is_there
 unfolding misnames_on
 returns-then-not-is_there c =
     let there = c in
-    rw (ap (is_there there.args.table) (sym there.number_on-n.ensures) ∙ sym there.is_there.ensures ∙ not-true _ c.if-not-is_there.true)
+    rw (ap (is_there there.args.table) (sym there.number_on-n.ensures) ∙ sym there.is_there.ensures ∙ c.if-not-is_there.true)
 
 pub returns : goal.returns
 unfolding misnames_on
@@ -17,5 +17,5 @@ returns c =
     let there = c in
     let args = there.args in
     let number = there.number_on-n.ensures in
-    rw (ap (is_there args.table) (sym number) ∙ sym there.is_there.ensures ∙ not-false _ c.if-not-is_there.false)
+    rw (ap (is_there args.table) (sym number) ∙ sym there.is_there.ensures ∙ c.if-not-is_there.false)
     (c.is_named.ensures ∙ ap (λ n. named_on args.side args.pairs.now n args.i) number)

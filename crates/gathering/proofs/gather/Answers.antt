@@ -55,7 +55,7 @@ returns-then-not-next c =
     let read = enter in
     c.not_gathered.ensures
     ∙ sym ((here read).loop.invariant.1
-    ∙ gather-stops _ (rest read) (some read) (ap (λ (g : Gathered). g.good) (sym (entered-is enter)) ∙ not-true _ c.if-not-next.true))
+    ∙ gather-stops _ (rest read) (some read) (ap (λ (g : Gathered). g.good) (sym (entered-is enter)) ∙ c.if-not-next.true))
 
 -- and some bytes were taken
 

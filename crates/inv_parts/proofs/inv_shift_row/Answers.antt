@@ -10,11 +10,14 @@ use Rattle.laws.specs.Lists.{cell}
 use Rattle.inv_parts.proofs.inv_shift_row.Goals as goal
 
 pub loop-c-init : goal.loop-c-init
+unfolding inv_shift_row
 loop-c-init c = columns-none (state-shape c.well_formed.0)
 
 pub loop-c-preserved : goal.loop-c-preserved
+unfolding inv_shift_row
 loop-c-preserved c = let turn = c in
     columns-more turn.loop-c.invariant turn.loop-c-test.true _ _ _ _ (ap (cell turn.args.s 0) (not-turned _ turn.loop-c-test.true).1) refl refl refl
 
 pub returns : goal.returns
+unfolding inv_shift_row
 returns c = columns-all c.loop-c.invariant c.loop-c-test.false

@@ -10,7 +10,7 @@ use Rattle.line_parts.proofs.name_in.Goals as goal
 
 pub returns-then-not-has_equals : goal.returns-then-not-has_equals
 unfolding name_in
-returns-then-not-has_equals c = rw (sym c.has_equals.ensures ∙ not-true _ c.if-not-has_equals.true) c.front.ensures
+returns-then-not-has_equals c = rw (sym c.has_equals.ensures ∙ c.if-not-has_equals.true) c.front.ensures
 
 pub overflow_sub-before : goal.overflow_sub-before
 overflow_sub-before c = omega (arith, c.trailing-spaces.ensures, trailing-within space c.before_equals-before.result.now)
@@ -18,4 +18,4 @@ overflow_sub-before c = omega (arith, c.trailing-spaces.ensures, trailing-within
 pub returns : goal.returns
 unfolding name_in
 returns c =
-    rw (sym c.has_equals.ensures ∙ not-false _ c.if-not-has_equals.false) (cc)
+    rw (sym c.has_equals.ensures ∙ c.if-not-has_equals.false) (cc)

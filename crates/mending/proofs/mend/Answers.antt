@@ -48,7 +48,7 @@ is_read c =
 pub returns-then-not-is_record : goal.returns-then-not-is_record
 returns-then-not-is_record c =
     let text = c in
-    out-value _ _ (good text) (sym (is_read c) ∙ not-true _ c.if-not-is_record.true)
+    out-value _ _ (good text) (sym (is_read c) ∙ c.if-not-is_record.true)
 
 pub put_changes-length-requires : goal.put_changes-length-requires
 put_changes-length-requires c =
@@ -60,7 +60,7 @@ returns-then-buffer-length c =
     let changes = c in
     let test = changes in
     let text = test in
-    out-room _ _ (good text) (sym (is_read test) ∙ not-false _ test.if-not-is_record.false)
+    out-room _ _ (good text) (sym (is_read test) ∙ test.if-not-is_record.false)
     (omega (arith, last-is _ (good text) size text.put_text-end.ensures changes.put_changes-length.ensures, c.if-buffer-length.true))
 
 pub front-requires-2 : goal.front-requires-2
@@ -111,4 +111,4 @@ returns c =
     let ends = last-is _ (good text) size text.put_text-end.ensures changes.put_changes-length.ensures in
     let holds = put_front (put_as (is-sheet sheet) call.put_bytes.ensures) (sheet-room sheet) in
     (λ i. mend_as done (ends i) (holds i))
-    ∙ out-done _ _ (good text) (sym (is_read test) ∙ not-false _ test.if-not-is_record.false) (sheet-fits sheet)
+    ∙ out-done _ _ (good text) (sym (is_read test) ∙ test.if-not-is_record.false) (sheet-fits sheet)

@@ -12,10 +12,10 @@ use Rattle.reading.proofs.may_follow.Goals as goal
 
 pub returns-then-not-is_digit : goal.returns-then-not-is_digit
 unfolding may_follow
-returns-then-not-is_digit c = rw (sym c.is_digit.ensures ∙ not-true _ c.if-not-is_digit.true)
+returns-then-not-is_digit c = rw (sym c.is_digit.ensures ∙ c.if-not-is_digit.true)
 
 digit : (c : goal.Else-not-is_digit) → is_digit c.args.b ≡ true
-digit c = sym c.is_digit.ensures ∙ not-false _ c.if-not-is_digit.false
+digit c = sym c.is_digit.ensures ∙ c.if-not-is_digit.false
 
 pub returns-then-n-eq0 : goal.returns-then-n-eq0
 unfolding may_follow

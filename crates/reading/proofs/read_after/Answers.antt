@@ -27,13 +27,13 @@ returns-then-not-may_follow c =
     let test = follow in
     c.wrong_at.ensures
     ∙ sym (ap answer (test.loop-i.invariant
-    ∙ after-no _ _ _ _ test.loop-i-test.true follow.if-b-eq10.false (sym follow.may_follow.ensures ∙ not-true _ c.if-not-may_follow.true)))
+    ∙ after-no _ _ _ _ test.loop-i-test.true follow.if-b-eq10.false (sym follow.may_follow.ensures ∙ c.if-not-may_follow.true)))
 
 -- the byte may follow
 
 follows : (c : goal.Else-not-may_follow) → let here = c in let args = here.args in
     may_follow args.high here.loop-i.value (get_or args.s.now here.loop-i.i 0) ≡ true
-follows c = sym c.may_follow.ensures ∙ not-false _ c.if-not-may_follow.false
+follows c = sym c.may_follow.ensures ∙ c.if-not-may_follow.false
 
 pub overflow_mul-value : goal.overflow_mul-value
 overflow_mul-value c = let k = follow-is _ _ _ (follows c) in record { fits = omega arith }

@@ -24,14 +24,14 @@ returns-then-not-may_begin c =
     let room = begin in
     c.wrong_at-then-not-may_begin.ensures
     ∙ sym (ap answer (on-good _ _ _ room.if-not-before.false
-    ∙ step-no _ _ _ _ room.if-s-at.false (sym begin.may_begin.ensures ∙ not-true _ c.if-not-may_begin.true)))
+    ∙ step-no _ _ _ _ room.if-s-at.false (sym begin.may_begin.ensures ∙ c.if-not-may_begin.true)))
 
 pub overflow_sub-first : goal.overflow_sub-first
-overflow_sub-first c = let k = begin-is _ _ _ (sym c.may_begin.ensures ∙ not-false _ c.if-not-may_begin.false) in omega arith
+overflow_sub-first c = let k = begin-is _ _ _ (sym c.may_begin.ensures ∙ c.if-not-may_begin.false) in omega arith
 
 pub overflow_cast-first : goal.overflow_cast-first
 overflow_cast-first c =
-    let k = begin-is _ _ _ (sym c.may_begin.ensures ∙ not-false _ c.if-not-may_begin.false) in record { fits = omega arith }
+    let k = begin-is _ _ _ (sym c.may_begin.ensures ∙ c.if-not-may_begin.false) in record { fits = omega arith }
 
 pub returns : goal.returns
 unfolding decimal
@@ -40,4 +40,4 @@ returns c =
     let room = begin in
     c.read_after.ensures
     ∙ sym (ap answer (on-good _ _ _ room.if-not-before.false
-    ∙ step-yes _ _ _ _ room.if-s-at.false (sym begin.may_begin.ensures ∙ not-false _ c.if-not-may_begin.false)))
+    ∙ step-yes _ _ _ _ room.if-s-at.false (sym begin.may_begin.ensures ∙ c.if-not-may_begin.false)))

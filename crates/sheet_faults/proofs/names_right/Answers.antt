@@ -20,14 +20,14 @@ returns-then-not-is_named_right c =
     let name = c in
     let test = name in
     sym (test.loop-k.invariant
-    ∙ names-wrong _ _ _ (omega (arith, test.loop-k-test.true)) (eqb-false _ _ (sym name.is_named_right.ensures ∙ not-true _ c.if-not-is_named_right.true)))
+    ∙ names-wrong _ _ _ (omega (arith, test.loop-k-test.true)) (eqb-false _ _ (sym name.is_named_right.ensures ∙ c.if-not-is_named_right.true)))
 
 pub loop-k-preserved : goal.loop-k-preserved
 loop-k-preserved c =
     let name = c in
     let test = name in
     test.loop-k.invariant
-    ∙ names-on _ _ _ (omega (arith, test.loop-k-test.true)) (eqb-true _ _ (sym name.is_named_right.ensures ∙ not-false _ c.if-not-is_named_right.false))
+    ∙ names-on _ _ _ (omega (arith, test.loop-k-test.true)) (eqb-true _ _ (sym name.is_named_right.ensures ∙ c.if-not-is_named_right.false))
 
 pub returns : goal.returns
 returns c = sym (c.loop-k.invariant ∙ names-all _ _ _ (omega (arith, c.loop-k-test.false)))

@@ -13,10 +13,10 @@ returns-then-text-gt-MOST c = rw (lt-ltb most_bytes _ c.if-text-gt-MOST.true)
 pub returns-then-not-ends_with : goal.returns-then-not-ends_with
 unfolding sheet_bad
 returns-then-not-ends_with c =
-    rw (le-ltb most_bytes _ c.if-text-gt-MOST.false, sym c.ends_with.ensures ∙ not-true _ c.if-not-ends_with.true)
+    rw (le-ltb most_bytes _ c.if-text-gt-MOST.false, sym c.ends_with.ensures ∙ c.if-not-ends_with.true)
 
 pub returns : goal.returns
 unfolding sheet_bad
 returns c =
-    rw (le-ltb most_bytes _ c.if-text-gt-MOST.false, sym c.ends_with.ensures ∙ not-false _ c.if-not-ends_with.false)
+    rw (le-ltb most_bytes _ c.if-text-gt-MOST.false, sym c.ends_with.ensures ∙ c.if-not-ends_with.false)
     (ap not c.names_right.ensures)

@@ -13,10 +13,10 @@ returns-then-count-ne32 c = rw (ne_eqb _ 32 c.if-count-ne32.true)
 pub returns-then-not-is_slot_number : goal.returns-then-not-is_slot_number
 returns-then-not-is_slot_number c =
     let n = c in
-    rw (eq-eqb _ 32 n.if-count-ne32.false, sym n.is_slot_number.ensures ∙ not-true _ c.if-not-is_slot_number.true)
+    rw (eq-eqb _ 32 n.if-count-ne32.false, sym n.is_slot_number.ensures ∙ c.if-not-is_slot_number.true)
 
 numbered : (c : goal.Else-not-is_slot_number) → is_slot_number c.args.number ≡ true
-numbered c = sym c.is_slot_number.ensures ∙ not-false _ c.if-not-is_slot_number.false
+numbered c = sym c.is_slot_number.ensures ∙ c.if-not-is_slot_number.false
 
 pub returns : goal.returns
 returns c = rw (eq-eqb _ 32 c.if-count-ne32.false, numbered c)

@@ -17,7 +17,7 @@ after_is c =
 
 pub returns-then-not-after : goal.returns-then-not-after
 unfolding named_by
-returns-then-not-after c = rw (ap (λ (r : Reading). r.good) (sym (after_is c)) ∙ not-true _ c.if-not-after.true)
+returns-then-not-after c = rw (ap (λ (r : Reading). r.good) (sym (after_is c)) ∙ c.if-not-after.true)
 
 pub returns : goal.returns
 unfolding named_by
@@ -25,4 +25,4 @@ returns c =
     let line = c in
     let after = after_is line in
     let before = line.read_before-before.ensures in
-    rw (ap (λ (r : Reading). r.good) (sym after) ∙ not-false _ c.if-not-after.false) (λ i. record { before = (before i).value; after = (after i).value })
+    rw (ap (λ (r : Reading). r.good) (sym after) ∙ c.if-not-after.false) (λ i. record { before = (before i).value; after = (after i).value })

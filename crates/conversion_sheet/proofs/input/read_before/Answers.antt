@@ -19,7 +19,7 @@ named c =
 
 pub returns-then-not-name : goal.returns-then-not-name
 unfolding before_read
-returns-then-not-name c = rw (sym (named c) ∙ not-true _ c.if-not-name.true) c.not_read.ensures
+returns-then-not-name c = rw (sym (named c) ∙ c.if-not-name.true) c.not_read.ensures
 
 pub returns : goal.returns
 unfolding before_read
@@ -27,5 +27,5 @@ returns c =
     let third = c in
     let second = third in
     let first = second in
-    rw (sym (named first) ∙ not-false _ first.if-not-name.false)
+    rw (sym (named first) ∙ first.if-not-name.false)
     (c.spaced_number.ensures ∙ (λ i. spaced_number (first.byte_at.ensures i) (second.byte_at-2.ensures i) (third.byte_at-3.ensures i)))

@@ -12,14 +12,14 @@ use Rattle.conversion_sheet.proofs.input.spaced_number.Goals as goal
 -- a digit begins, and another follows
 
 begins : (c : goal.Else-not-may_begin) → may_begin 1 32 c.args.b ≡ true
-begins c = sym c.may_begin.ensures ∙ not-false _ c.if-not-may_begin.false
+begins c = sym c.may_begin.ensures ∙ c.if-not-may_begin.false
 
 follows : (c : goal.Else-not-may_follow) → let args = c.args in may_follow 32 (args.b - 48) args.c ≡ true
-follows c = sym c.may_follow.ensures ∙ not-false _ c.if-not-may_follow.false
+follows c = sym c.may_follow.ensures ∙ c.if-not-may_follow.false
 
 pub returns-then-not-may_begin : goal.returns-then-not-may_begin
 unfolding spaced_number
-returns-then-not-may_begin c = rw (sym c.may_begin.ensures ∙ not-true _ c.if-not-may_begin.true) c.not_read.ensures
+returns-then-not-may_begin c = rw (sym c.may_begin.ensures ∙ c.if-not-may_begin.true) c.not_read.ensures
 
 pub overflow_sub-digit : goal.overflow_sub-digit
 overflow_sub-digit c = (begin-is 1 32 _ (begins c)).0
@@ -32,7 +32,7 @@ pub returns-then-not-may_follow : goal.returns-then-not-may_follow
 unfolding spaced_number
 returns-then-not-may_follow c =
     let follow = c in
-    rw (begins follow, ne_eqb _ _ follow.if-c-eq32.false, sym follow.may_follow.ensures ∙ not-true _ c.if-not-may_follow.true)
+    rw (begins follow, ne_eqb _ _ follow.if-c-eq32.false, sym follow.may_follow.ensures ∙ c.if-not-may_follow.true)
     c.not_read-then-not-may_follow.ensures
 
 pub returns-then-d-ne32 : goal.returns-then-d-ne32

@@ -23,10 +23,10 @@ pub returns-then-not-may_begin : goal.returns-then-not-may_begin
 returns-then-not-may_begin c =
     let rest = c in
     c.no_number-then-not-may_begin.ensures
-    ∙ sym (first-no rest.args.s.now (some rest) (sym c.may_begin.ensures ∙ not-true _ c.if-not-may_begin.true))
+    ∙ sym (first-no rest.args.s.now (some rest) (sym c.may_begin.ensures ∙ c.if-not-may_begin.true))
 
 begins : (c : goal.Else-not-may_begin) → may_begin 0 largest (get_or c.args.s.now 0 0) ≡ true
-begins c = sym c.may_begin.ensures ∙ not-false _ c.if-not-may_begin.false
+begins c = sym c.may_begin.ensures ∙ c.if-not-may_begin.false
 
 pub overflow_sub-value : goal.overflow_sub-value
 overflow_sub-value c = let k = begin-is _ _ _ (begins c) in omega arith
@@ -48,13 +48,13 @@ returns-then-not-may_follow c =
     let test = c in
     c.no_number-then-not-may_follow.ensures
     ∙ sym (test.loop-i.invariant.1
-    ∙ number-no (text test) _ test.loop-i-test.true _ (sym c.may_follow.ensures ∙ not-true _ c.if-not-may_follow.true))
+    ∙ number-no (text test) _ test.loop-i-test.true _ (sym c.may_follow.ensures ∙ c.if-not-may_follow.true))
 
 -- the byte may follow
 
 follows : (c : goal.Else-not-may_follow) → let here = c in
     may_follow largest here.loop-i.value (get_or (text here) here.loop-i.i 0) ≡ true
-follows c = sym c.may_follow.ensures ∙ not-false _ c.if-not-may_follow.false
+follows c = sym c.may_follow.ensures ∙ c.if-not-may_follow.false
 
 pub overflow_mul-value : goal.overflow_mul-value
 overflow_mul-value c =

@@ -13,7 +13,7 @@ use Rattle.mending.proofs.changes.put_change.Goals as goal
 pub returns-then-not-made : goal.returns-then-not-made
 returns-then-not-made c =
     let args = c.args in
-    put_as (sym (ap (λ (t : Bool). change_text t args.name.now) (not-true _ c.if-not-made.true) ∙ change-none args.name.now)) (put-none _ _)
+    put_as (sym (ap (λ (t : Bool). change_text t args.name.now) (c.if-not-made.true) ∙ change-none args.name.now)) (put-none _ _)
 
 -- a line is put
 
@@ -21,7 +21,7 @@ is_made : (c : goal.Else-not-made) → let args = c.args in
     change_text args.made args.name.now ≡ ascii "changed=" ++ (args.name.now ++ (lf ∷ []))
 is_made c =
     let args = c.args in
-    ap (λ (t : Bool). change_text t args.name.now) (not-false _ c.if-not-made.false) ∙ change-made args.name.now
+    ap (λ (t : Bool). change_text t args.name.now) (c.if-not-made.false) ∙ change-made args.name.now
 
 pub put_bytes-value-requires : goal.put_bytes-value-requires
 put_bytes-value-requires c =

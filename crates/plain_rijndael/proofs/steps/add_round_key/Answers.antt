@@ -26,13 +26,17 @@ loop-c-preserved c =
     in-row-more at.loop-c.invariant l _ (ap (bit_xor (cell a.s r at.loop-c.c)) (word_byte a.w small (8 * a.n + at.loop-c.c) r h at.loop-c.invariant.0))
 
 pub loop-r-init : goal.loop-r-init
+unfolding add_round_key
 loop-r-init c = in-rows-none (state-shape c.well_formed.0)
 
 pub loop-c-init : goal.loop-c-init
+unfolding add_round_key
 loop-c-init c = in-row-none c.loop-r.invariant c.loop-r-test.true
 
 pub loop-r-preserved : goal.loop-r-preserved
+unfolding add_round_key
 loop-r-preserved c = in-rows-more c.loop-c.invariant c.loop-c-test.false
 
 pub returns : goal.returns
+unfolding add_round_key
 returns c = in-rows-all c.loop-r.invariant c.loop-r-test.false

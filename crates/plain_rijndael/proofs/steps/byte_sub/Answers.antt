@@ -10,16 +10,21 @@ use Rattle.laws.specs.Lists.{cell}
 use Rattle.plain_rijndael.proofs.steps.byte_sub.Goals as goal
 
 pub loop-r-init : goal.loop-r-init
+unfolding byte_sub
 loop-r-init c = in-rows-none (state-shape c.well_formed.0)
 
 pub loop-c-init : goal.loop-c-init
+unfolding byte_sub
 loop-c-init c = in-row-none c.loop-r.invariant c.loop-r-test.true
 
 pub loop-c-preserved : goal.loop-c-preserved
+unfolding byte_sub
 loop-c-preserved c = in-row-more c.loop-c.invariant c.loop-c-test.true _ c.s_box.ensures
 
 pub loop-r-preserved : goal.loop-r-preserved
+unfolding byte_sub
 loop-r-preserved c = in-rows-more c.loop-c.invariant c.loop-c-test.false
 
 pub returns : goal.returns
+unfolding byte_sub
 returns c = in-rows-all c.loop-r.invariant c.loop-r-test.false

@@ -14,13 +14,17 @@ loop-c-preserved c =
     in-row-more entered.loop-c.invariant entered.loop-c-test.true _ c.mixed_byte.ensures
 
 pub loop-r-init : goal.loop-r-init
+unfolding mix_column
 loop-r-init c = in-rows-none (state-shape c.well_formed.0)
 
 pub loop-c-init : goal.loop-c-init
+unfolding mix_column
 loop-c-init c = in-row-none c.loop-r.invariant c.loop-r-test.true
 
 pub loop-r-preserved : goal.loop-r-preserved
+unfolding mix_column
 loop-r-preserved c = in-rows-more c.loop-c.invariant c.loop-c-test.false
 
 pub returns : goal.returns
+unfolding mix_column
 returns c = in-rows-all c.loop-r.invariant c.loop-r-test.false

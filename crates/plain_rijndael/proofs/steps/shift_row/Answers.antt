@@ -30,13 +30,17 @@ loop-c-preserved c =
     (ap (λ (n : ℕ). cell at.args.s at.loop-r.r ((at.loop-c.c + n) % 8)) c.Shift-of.ensures)
 
 pub loop-r-init : goal.loop-r-init
+unfolding shift_row
 loop-r-init c = in-rows-none (state-shape c.well_formed.0)
 
 pub loop-c-init : goal.loop-c-init
+unfolding shift_row
 loop-c-init c = in-row-none c.loop-r.invariant c.loop-r-test.true
 
 pub loop-r-preserved : goal.loop-r-preserved
+unfolding shift_row
 loop-r-preserved c = in-rows-more c.loop-c.invariant c.loop-c-test.false
 
 pub returns : goal.returns
+unfolding shift_row
 returns c = in-rows-all c.loop-r.invariant c.loop-r-test.false
