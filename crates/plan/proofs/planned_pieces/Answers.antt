@@ -20,7 +20,7 @@ returns-then-state-eq1 c =
       c.if-kind-state.false,
       eq-eqb _ _ c.if-state-eq1.true,
       c.with_pieces-then-state-eq1.ensures,
-      c.Rest-from.ensures,
+      c.rest_from.ensures,
       c.clear_head.ensures,
     )
 
