@@ -12,13 +12,10 @@ returns-then-not-same_fields c = rw (sym c.same_fields.ensures ∙ c.if-not-same
 pub returns-then-not-same_key : goal.returns-then-not-same_key
 unfolding agrees
 returns-then-not-same_key c =
-    let test = c in
-    rw (sym test.same_fields.ensures ∙ test.if-not-same_fields.false, sym c.same_key.ensures ∙ c.if-not-same_key.true)
+    rw (sym c.same_fields.ensures ∙ c.if-not-same_fields.false, sym c.same_key.ensures ∙ c.if-not-same_key.true)
 
 pub returns : goal.returns
 unfolding agrees
 returns c =
-    let keys = c in
-    let fields = keys in
-    rw (sym fields.same_fields.ensures ∙ fields.if-not-same_fields.false, sym keys.same_key.ensures ∙ keys.if-not-same_key.false)
+    rw (sym c.same_fields.ensures ∙ c.if-not-same_fields.false, sym c.same_key.ensures ∙ c.if-not-same_key.false)
     c.lies_within.ensures

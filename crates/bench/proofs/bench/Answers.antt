@@ -13,15 +13,6 @@ use Rattle.ciphering.proofs.Answers.{ciphered-is}
 use Rattle.bench.proofs.Passed.{KeyedPassed, keyed-passed}
 use Rattle.bench.proofs.bench.Goals as goal
 
-abbrev start : goal.Else-refusal-ne-DONE → goal.Start
-start e = e
-
-accepted : (e : goal.Else-refusal-ne-DONE) → bench_refusal (start e).args.algorithm (start e).args.key.now (start e).args.iv.now (start e).args.buf.now (start e).args.n ≡ 0
-accepted e = sym e.bench_refusal-refusal.ensures ∙ e.if-refusal-ne-DONE.false
-
-passed : (e : goal.Else-refusal-ne-DONE) → KeyedPassed (length (start e).args.key.now) (length (start e).args.iv.now) (length (start e).args.buf.now) 0 (start e).args.n 0
-passed e = keyed-passed _ _ _ _ _ _ _ (accepted e)
-
 pub returns-then-refusal-ne-DONE : goal.returns-then-refusal-ne-DONE
 unfolding benched bench_blocks
 returns-then-refusal-ne-DONE c =
@@ -30,27 +21,51 @@ returns-then-refusal-ne-DONE c =
     (ciphered-is e (rw no) (rw no), rw no)
 
 pub key_of-requires : goal.key_of-requires
-key_of-requires c = (passed c).key-24
+key_of-requires c =
+    let accepted : bench_refusal (start c).args.algorithm (start c).args.key.now (start c).args.iv.now (start c).args.buf.now (start c).args.n ≡ 0 =
+    sym c.bench_refusal-refusal.ensures ∙ c.if-refusal-ne-DONE.false
+    in
+    let passed : KeyedPassed (length (start c).args.key.now) (length (start c).args.iv.now) (length (start c).args.buf.now) 0 (start c).args.n 0 =
+    keyed-passed _ _ _ _ _ _ _ accepted
+    in
+    passed.key-24
 
 pub iv_of-requires : goal.iv_of-requires
-iv_of-requires c = (passed c).iv-10
+iv_of-requires c =
+    let accepted : bench_refusal (start c).args.algorithm (start c).args.key.now (start c).args.iv.now (start c).args.buf.now (start c).args.n ≡ 0 =
+    sym c.bench_refusal-refusal.ensures ∙ c.if-refusal-ne-DONE.false
+    in
+    let passed : KeyedPassed (length (start c).args.key.now) (length (start c).args.iv.now) (length (start c).args.buf.now) 0 (start c).args.n 0 =
+    keyed-passed _ _ _ _ _ _ _ accepted
+    in
+    passed.iv-10
 
 pub write_keystream-made-requires : goal.write_keystream-made-requires
-write_keystream-made-requires c = let s = (passed c).span in (s.small, omega arith, omega arith)
+write_keystream-made-requires c =
+    let accepted : bench_refusal (start c).args.algorithm (start c).args.key.now (start c).args.iv.now (start c).args.buf.now (start c).args.n ≡ 0 =
+    sym c.bench_refusal-refusal.ensures ∙ c.if-refusal-ne-DONE.false
+    in
+    let passed : KeyedPassed (length (start c).args.key.now) (length (start c).args.iv.now) (length (start c).args.buf.now) 0 (start c).args.n 0 =
+    keyed-passed _ _ _ _ _ _ _ accepted
+    in
+    let s = passed.span in (s.small, omega arith, omega arith)
 
 pub returns : goal.returns
 unfolding benched bench_blocks
 returns c =
-    let ran = c in
-    let iv = ran in
-    let e = iv in
-    let a = (start e).args in
-    let yes = eq-eqb (bench_refusal a.algorithm a.key.now a.iv.now a.buf.now a.n) 0 (accepted e) in
-    let made = ran.write_keystream-made.ensures in (
-      ciphered-is e.bench_refusal-refusal.ensures
+    let accepted : bench_refusal (start c).args.algorithm (start c).args.key.now (start c).args.iv.now (start c).args.buf.now (start c).args.n ≡ 0 =
+    sym c.bench_refusal-refusal.ensures ∙ c.if-refusal-ne-DONE.false
+    in
+    let passed : KeyedPassed (length (start c).args.key.now) (length (start c).args.iv.now) (length (start c).args.buf.now) 0 (start c).args.n 0 =
+    keyed-passed _ _ _ _ _ _ _ accepted
+    in
+    let a = c.args in
+    let yes = eq-eqb (bench_refusal a.algorithm a.key.now a.iv.now a.buf.now a.n) 0 accepted in
+    let made = c.write_keystream-made.ensures in (
+      ciphered-is c.bench_refusal-refusal.ensures
           (rw yes
           (made.0
-          ∙ (λ i. written a.buf.now (keystream a.algorithm (iv.key_of.ensures i) (iv.iv_of.ensures i)) 0 0 a.n)))
+          ∙ (λ i. written a.buf.now (keystream a.algorithm (c.key_of.ensures i) (c.iv_of.ensures i)) 0 0 a.n)))
           (rw yes made.2),
-      made.1 ∙ rw (yes, ne_eqb (blocks_used 0 a.n) 0 (λ z. let some = used_pos 0 a.n (passed e).span.some in omega (arith, some))),
+      made.1 ∙ rw (yes, ne_eqb (blocks_used 0 a.n) 0 (λ z. let some = used_pos 0 a.n passed.span.some in omega (arith, some))),
     )

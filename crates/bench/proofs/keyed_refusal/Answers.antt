@@ -6,7 +6,4 @@ use Rattle.bench.proofs.keyed_refusal.Goals as goal
 pub returns : goal.returns
 unfolding keyed_refusal
 returns c =
-    let two = c in
-    let one = two in
-    let span = one in
-    rw (c.refuse-3.ensures, two.refuse-2.ensures, one.refuse.ensures, span.span_refusal.ensures, span.is_algorithm.ensures)
+    rw (c.refuse-3.ensures, c.refuse-2.ensures, c.refuse.ensures, c.span_refusal.ensures, c.is_algorithm.ensures)

@@ -10,13 +10,11 @@ use Rattle.bench.proofs.write_keystream.Goals as goal
 
 pub returns : goal.returns
 returns c =
-    let ran = c in
-    let front = ran in
-    let a = front.args in
+    let a = c.args in
     let k = keystream a.algorithm a.ck a.iv in
-    let made = ran.cipher_from.ensures in (
+    let made = c.cipher_from.ensures in (
       made.0
-          ∙ ap (λ (l : List ℕ). xored l k 0 0 a.n) front.clear_front.ensures
+          ∙ ap (λ (l : List ℕ). xored l k 0 0 a.n) c.clear_front.ensures
           ∙ xored-cleared a.buf.now k 0 0 a.n,
       made.1,
       made.2,

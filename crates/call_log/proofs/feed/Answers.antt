@@ -14,17 +14,12 @@ loop-i-init c = (omega arith, refl, refl)
 
 pub loop-i-preserved : goal.loop-i-preserved
 loop-i-preserved c =
-    let call = c in
-    let loop = c in
-    let start = c in
-    let e = call.feed_byte-next.ensures in (
-      omega (arith, loop.loop-i.invariant.0),
-      ap (λ (f : Fed). length f.figures) e ∙ (byte-size (fed_to loop.loop-i.now loop.loop-i.figures) (get_or start.args.block.now loop.loop-i.i 0) ∙ loop.loop-i.invariant.1),
-      loop.loop-i.invariant.2 ∙ (fed-next (fed_to loop.loop-i.now loop.loop-i.figures) start.args.block.now loop.loop-i.i (search rules) ∙ ap (λ (f : Fed). fed f (drop (loop.loop-i.i + 1) start.args.block.now)) (sym e)),
+    let e = c.feed_byte-next.ensures in (
+      omega (arith, c.loop-i.invariant.0),
+      ap (λ (f : Fed). length f.figures) e ∙ (byte-size (fed_to c.loop-i.now c.loop-i.figures) (get_or c.args.block.now c.loop-i.i 0) ∙ c.loop-i.invariant.1),
+      c.loop-i.invariant.2 ∙ (fed-next (fed_to c.loop-i.now c.loop-i.figures) c.args.block.now c.loop-i.i (search rules) ∙ ap (λ (f : Fed). fed f (drop (c.loop-i.i + 1) c.args.block.now)) (sym e)),
     )
 
 pub returns : goal.returns
 returns c =
-    let loop = c in
-    let start = c in
-    sym (loop.loop-i.invariant.2 ∙ fed-over (fed_to loop.loop-i.now loop.loop-i.figures) start.args.block.now loop.loop-i.i (search rules))
+    sym (c.loop-i.invariant.2 ∙ fed-over (fed_to c.loop-i.now c.loop-i.figures) c.args.block.now c.loop-i.i (search rules))

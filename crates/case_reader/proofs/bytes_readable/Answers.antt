@@ -7,11 +7,8 @@ use Rattle.case_reader.proofs.bytes_readable.Goals as goal
 
 pub returns : goal.returns
 returns c =
-    let tail = c in
-    let last = tail in
-    let iv = last in
     c.both-2.ensures
-    ∙ (λ j. iv.is_bytes.ensures j
-    && (tail.both.ensures
-    ∙ (λ k. iv.is_bytes-2.ensures k
-    && (last.are_bytes.ensures ∙ ap are_bytes last.after_spaces.ensures) k)) j)
+    ∙ (λ j. c.is_bytes.ensures j
+    && (c.both.ensures
+    ∙ (λ k. c.is_bytes-2.ensures k
+    && (c.are_bytes.ensures ∙ ap are_bytes c.after_spaces.ensures) k)) j)

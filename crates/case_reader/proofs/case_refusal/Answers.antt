@@ -19,10 +19,8 @@ sized s e = e ∙ sym (length-bytes s)
 pub returns : goal.returns
 unfolding case_of
 returns c =
-    let start = c in
-    let key = start in
-    let line = key.args.line.now in
+    let line = c.args.line.now in
     c.keyed_refusal.ensures
     ∙ (λ i.
-    keyed_refusal (key.value.ensures i) (sized (part 1 line) key.size.ensures i) (sized (part 2 line) start.size-2.ensures i)
-    (sized (last_part line) start.buffer_size.ensures i) (start.value-2.ensures i) (c.value-3.ensures i) (c.value-4.ensures i))
+    keyed_refusal (c.value.ensures i) (sized (part 1 line) c.size.ensures i) (sized (part 2 line) c.size-2.ensures i)
+    (sized (last_part line) c.buffer_size.ensures i) (c.value-2.ensures i) (c.value-3.ensures i) (c.value-4.ensures i))

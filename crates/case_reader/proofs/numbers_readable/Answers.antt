@@ -8,10 +8,8 @@ use Rattle.case_reader.proofs.numbers_readable.Goals as goal
 pub returns : goal.returns
 unfolding numbers_readable
 returns c =
-    let last = c in
-    let four = last in
     c.both-3.ensures
-    ∙ (λ i. four.is_number.ensures i
+    ∙ (λ i. c.is_number.ensures i
     && (c.both-2.ensures
-    ∙ (λ j. four.is_number-2.ensures j
-    && (last.both.ensures ∙ (λ k. four.is_number-3.ensures k && four.is_number-4.ensures k)) j)) i)
+    ∙ (λ j. c.is_number-2.ensures j
+    && (c.both.ensures ∙ (λ k. c.is_number-3.ensures k && c.is_number-4.ensures k)) j)) i)

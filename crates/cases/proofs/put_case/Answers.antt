@@ -16,33 +16,43 @@ returns-then-not-is_readable c =
     let put = c.put_bytes.ensures in
     (omega (arith, put.ends), put_as (text-unreadable _ (sym c.is_readable.ensures ∙ c.if-not-is_readable.true)) put)
 
-short : (c : goal.After-case_refusal-refusal) → length (refused_text c.case_refusal-refusal.result) ≤ answer_room
-short c = refused-fits c.case_refusal-refusal.result (omega arith)
-
 pub put_line-requires : goal.put_line-requires
-put_line-requires c = record { fits = omega (arith, short c, c.requires) }
+put_line-requires c =
+    let short : length (refused_text c.case_refusal-refusal.result) ≤ answer_room =
+    refused-fits c.case_refusal-refusal.result (omega arith)
+    in
+    record { fits = omega (arith, short, c.requires) }
 
 pub returns-then-refusal-ne-DONE : goal.returns-then-refusal-ne-DONE
 returns-then-refusal-ne-DONE c =
+    let short : length (refused_text c.case_refusal-refusal.result) ≤ answer_room =
+    refused-fits c.case_refusal-refusal.result (omega arith)
+    in
     let put = c.put_line.ensures in
     let refused = c.case_refusal-refusal.ensures in
     let readable = sym c.is_readable.ensures ∙ c.if-not-is_readable.false in
-    (omega (arith, put.ends, short c), put_as (ap refused_text refused ∙ text-refused _ readable (λ z. c.if-refusal-ne-DONE.true (refused ∙ z))) put)
+    (omega (arith, put.ends, short), put_as (ap refused_text refused ∙ text-refused _ readable (λ z. c.if-refusal-ne-DONE.true (refused ∙ z))) put)
 
-accepted : (c : goal.Else-refusal-ne-DONE) → Accepted c.args.line.now
-accepted c =
+pub put_accepted-requires : goal.put_accepted-requires
+put_accepted-requires c =
+    let accepted : Accepted c.args.line.now =
     record {
       readable = sym c.is_readable.ensures ∙ c.if-not-is_readable.false;
       passed = sym c.case_refusal-refusal.ensures ∙ c.if-refusal-ne-DONE.false;
     }
-
-pub put_accepted-requires : goal.put_accepted-requires
-put_accepted-requires c = (accepted c, c.requires)
+    in
+    (accepted, c.requires)
 
 pub returns : goal.returns
 returns c =
+    let accepted : Accepted c.args.line.now =
+    record {
+      readable = sym c.is_readable.ensures ∙ c.if-not-is_readable.false;
+      passed = sym c.case_refusal-refusal.ensures ∙ c.if-refusal-ne-DONE.false;
+    }
+    in
     let put = c.put_accepted.ensures in
-    let a = accepted c in
+    let a = accepted in
     (omega (arith, put.ends, accepted-fits a), put_as (text-accepted _ a) put)
 
 pub shape_of-out-then-not-is_readable : goal.shape_of-out-then-not-is_readable

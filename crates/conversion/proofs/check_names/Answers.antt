@@ -11,37 +11,40 @@ use Rattle.conversion.proofs.check_names.Goals as goal
 
 -- 32 pairs, and no more
 
-few : (c : goal.After-first_faulty-place) → ltb 32 (pair_count c.args.pairs.now) ≡ false
-few c = le-ltb 32 (pair_count c.args.pairs.now) (omega (arith, c.if-pair_count-gt-MOST_PAIRS.false, c.pair_count.ensures))
-
 -- and none misnames
-
-none : (c : goal.After-leaves_out)
-    → let args = c.args in
-    eqb (first_misnaming args args.after args.pairs.now) 0 ≡ true
-none c = eq-eqb _ 0 (sym c.first_faulty-place.ensures ∙ c.if-place-ne0.false)
 
 pub returns-then-pair_count-gt-MOST_PAIRS : goal.returns-then-pair_count-gt-MOST_PAIRS
 unfolding names_checked
 returns-then-pair_count-gt-MOST_PAIRS c =
-    let count = c in
-    rw (lt-ltb 32 (pair_count count.args.pairs.now) (omega (arith, c.if-pair_count-gt-MOST_PAIRS.true, count.pair_count.ensures))) c.answer.ensures
+    rw (lt-ltb 32 (pair_count c.args.pairs.now) (omega (arith, c.if-pair_count-gt-MOST_PAIRS.true, c.pair_count.ensures))) c.answer.ensures
 
 pub returns-then-place-ne0 : goal.returns-then-place-ne0
 unfolding names_checked
 returns-then-place-ne0 c =
-    let first = c in
-    let place = first.first_faulty-place.ensures in
-    rw (few first, ne_eqb _ 0 (λ z. c.if-place-ne0.true (place ∙ z))) (c.answer-then-place-ne0.ensures ∙ ap (checked_as 23) place)
+    let few : ltb 32 (pair_count c.args.pairs.now) ≡ false =
+    le-ltb 32 (pair_count c.args.pairs.now) (omega (arith, c.if-pair_count-gt-MOST_PAIRS.false, c.pair_count.ensures))
+    in
+    let place = c.first_faulty-place.ensures in
+    rw (few, ne_eqb _ 0 (λ z. c.if-place-ne0.true (place ∙ z))) (c.answer-then-place-ne0.ensures ∙ ap (checked_as 23) place)
 
 pub returns-then-leaves_out : goal.returns-then-leaves_out
 unfolding names_checked
 returns-then-leaves_out c =
-    let out = c in
-    rw (few out, none out, sym out.leaves_out.ensures ∙ c.if-leaves_out.true) c.answer-then-leaves_out.ensures
+    let few : ltb 32 (pair_count c.args.pairs.now) ≡ false =
+    le-ltb 32 (pair_count c.args.pairs.now) (omega (arith, c.if-pair_count-gt-MOST_PAIRS.false, c.pair_count.ensures))
+    in
+    let none : let args = c.args in eqb (first_misnaming args args.after args.pairs.now) 0 ≡ true =
+    eq-eqb _ 0 (sym c.first_faulty-place.ensures ∙ c.if-place-ne0.false)
+    in
+    rw (few, none, sym c.leaves_out.ensures ∙ c.if-leaves_out.true) c.answer-then-leaves_out.ensures
 
 pub returns : goal.returns
 unfolding names_checked
 returns c =
-    let out = c in
-    rw (few out, none out, sym out.leaves_out.ensures ∙ c.if-leaves_out.false) c.answer-2.ensures
+    let few : ltb 32 (pair_count c.args.pairs.now) ≡ false =
+    le-ltb 32 (pair_count c.args.pairs.now) (omega (arith, c.if-pair_count-gt-MOST_PAIRS.false, c.pair_count.ensures))
+    in
+    let none : let args = c.args in eqb (first_misnaming args args.after args.pairs.now) 0 ≡ true =
+    eq-eqb _ 0 (sym c.first_faulty-place.ensures ∙ c.if-place-ne0.false)
+    in
+    rw (few, none, sym c.leaves_out.ensures ∙ c.if-leaves_out.false) c.answer-2.ensures

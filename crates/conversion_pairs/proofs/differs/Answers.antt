@@ -10,11 +10,7 @@ use Rattle.conversion_pairs.proofs.differs.Goals as goal
 pub returns : goal.returns
 unfolding differs
 returns c =
-    let new = c in
-    let old = new in
-    let to = old in
-    let from = to in
-    let args = from.args in
+    let args = c.args in
     ap not
     (c.agrees.ensures
-    ∙ (λ i. agrees ((old.slot_or_empty.ensures ∙ ap (slot_as args) from.number_on-from.ensures) i) ((new.slot_or_empty-2.ensures ∙ ap (slot_as args.after) to.number_on-to.ensures) i)))
+    ∙ (λ i. agrees ((c.slot_or_empty.ensures ∙ ap (slot_as args) c.number_on-from.ensures) i) ((c.slot_or_empty-2.ensures ∙ ap (slot_as args.after) c.number_on-to.ensures) i)))

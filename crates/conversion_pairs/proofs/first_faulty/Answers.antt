@@ -17,17 +17,15 @@ loop-i-init c =
 
 pub returns-then-is_faulty : goal.returns-then-is_faulty
 returns-then-is_faulty c =
-    let test = c in
-    let loop = test.loop-i in
-    sym (loop.invariant.2 ∙ first-here _ loop.i _ test.loop-i-test.true (sym test.is_faulty.ensures ∙ c.if-is_faulty.true))
+    let loop = c.loop-i in
+    sym (loop.invariant.2 ∙ first-here _ loop.i _ c.loop-i-test.true (sym c.is_faulty.ensures ∙ c.if-is_faulty.true))
 
 pub loop-i-preserved : goal.loop-i-preserved
 loop-i-preserved c =
-    let test = c in
-    let loop = test.loop-i in (
+    let loop = c.loop-i in (
       search rules,
       loop.invariant.1,
-      loop.invariant.2 ∙ first_next _ loop.i _ test.loop-i-test.true (sym test.is_faulty.ensures ∙ c.if-is_faulty.false),
+      loop.invariant.2 ∙ first_next _ loop.i _ c.loop-i-test.true (sym c.is_faulty.ensures ∙ c.if-is_faulty.false),
     )
 
 pub returns : goal.returns

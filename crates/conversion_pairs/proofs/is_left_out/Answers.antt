@@ -13,8 +13,6 @@ returns-then-not-is_there c = rw (sym c.is_there.ensures ∙ c.if-not-is_there.t
 pub returns : goal.returns
 unfolding left_out
 returns c =
-    let count = c in
-    let there = count in
-    let args = there.args in
-    rw (sym there.is_there.ensures ∙ count.if-not-is_there.false)
-    (ap not (c.is_named.ensures ∙ ap (named_on 1 args.pairs.now args.n) count.pair_count.ensures))
+    let args = c.args in
+    rw (sym c.is_there.ensures ∙ c.if-not-is_there.false)
+    (ap not (c.is_named.ensures ∙ ap (named_on 1 args.pairs.now args.n) c.pair_count.ensures))

@@ -14,12 +14,11 @@ loop-i-init c = (search rules, refl)
 
 pub loop-i-preserved : goal.loop-i-preserved
 loop-i-preserved c =
-    let number = c in
-    let loop = number.loop-i in
-    let args = number.args in
+    let loop = c.loop-i in
+    let args = c.args in
     ⊎_elim
-    (λ w. (search rules, w.1 ∙ sym (named_here args.side args.pairs.now args.n loop.i (sym number.number_on.ensures ∙ w.0.taken))))
-    (λ w. (search rules, w.1 ∙ (loop.invariant.1 ∙ sym (named-not args.side args.pairs.now args.n loop.i (λ e. w.0.left (number.number_on.ensures ∙ e))))))
+    (λ w. (search rules, w.1 ∙ sym (named_here args.side args.pairs.now args.n loop.i (sym c.number_on.ensures ∙ w.0.taken))))
+    (λ w. (search rules, w.1 ∙ (loop.invariant.1 ∙ sym (named-not args.side args.pairs.now args.n loop.i (λ e. w.0.left (c.number_on.ensures ∙ e))))))
     c.if-number_on-n.branch
 
 pub returns : goal.returns

@@ -14,12 +14,11 @@ loop-i-init c = (search rules, refl)
 
 pub loop-i-preserved : goal.loop-i-preserved
 loop-i-preserved c =
-    let test = c in
-    let loop = test.loop-i in
-    let args = test.args in
+    let loop = c.loop-i in
+    let args = c.args in
     ⊎_elim
-    (λ w. (search rules, w.1 ∙ sym (out-here args.after args.pairs.now loop.i (sym test.is_left_out.ensures ∙ w.0.taken))))
-    (λ w. (search rules, w.1 ∙ (loop.invariant.1 ∙ sym (out-not args.after args.pairs.now loop.i (sym test.is_left_out.ensures ∙ w.0.left)))))
+    (λ w. (search rules, w.1 ∙ sym (out-here args.after args.pairs.now loop.i (sym c.is_left_out.ensures ∙ w.0.taken))))
+    (λ w. (search rules, w.1 ∙ (loop.invariant.1 ∙ sym (out-not args.after args.pairs.now loop.i (sym c.is_left_out.ensures ∙ w.0.left)))))
     c.if-is_left_out.branch
 
 pub returns : goal.returns

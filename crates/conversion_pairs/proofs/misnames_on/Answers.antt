@@ -8,14 +8,12 @@ use Rattle.conversion_pairs.proofs.misnames_on.Goals as goal
 pub returns-then-not-is_there : goal.returns-then-not-is_there
 unfolding misnames_on
 returns-then-not-is_there c =
-    let there = c in
-    rw (ap (is_there there.args.table) (sym there.number_on-n.ensures) ∙ sym there.is_there.ensures ∙ c.if-not-is_there.true)
+    rw (ap (is_there c.args.table) (sym c.number_on-n.ensures) ∙ sym c.is_there.ensures ∙ c.if-not-is_there.true)
 
 pub returns : goal.returns
 unfolding misnames_on
 returns c =
-    let there = c in
-    let args = there.args in
-    let number = there.number_on-n.ensures in
-    rw (ap (is_there args.table) (sym number) ∙ sym there.is_there.ensures ∙ c.if-not-is_there.false)
+    let args = c.args in
+    let number = c.number_on-n.ensures in
+    rw (ap (is_there args.table) (sym number) ∙ sym c.is_there.ensures ∙ c.if-not-is_there.false)
     (c.is_named.ensures ∙ ap (λ n. named_on args.side args.pairs.now n args.i) number)

@@ -13,44 +13,50 @@ use Rattle.conversion_sheet.specs.Report.{report_room}
 use Rattle.conversion_sheet.proofs.Texts.{text-passed, text-refused, passed-short, refused-short}
 use Rattle.conversion_sheet.proofs.put_checked.Goals as goal
 
-passed : (c : goal.Start) → length (line_text "converted=" (digits c.args.count)) ≤ report_room
-passed c = passed-short c.args.count (omega arith)
-
 pub put_line-requires : goal.put_line-requires
-put_line-requires c = record { fits = omega (arith, passed c) }
+put_line-requires c =
+    let passed : length (line_text "converted=" (digits c.args.count)) ≤ report_room =
+    passed-short c.args.count (omega arith)
+    in
+    record { fits = omega (arith, passed) }
 
 pub returns-then-c-eq-DONE : goal.returns-then-c-eq-DONE
 returns-then-c-eq-DONE c =
-    let call = c in
-    let test = call in
-    let start = test in
-    let put = call.put_line.ensures in
-    (omega (arith, put.ends, passed start), put_as (sym (text-passed start.args.c start.args.count test.if-c-eq-DONE.true)) put)
+    let passed : length (line_text "converted=" (digits c.args.count)) ≤ report_room =
+    passed-short c.args.count (omega arith)
+    in
+    let put = c.put_line.ensures in
+    (omega (arith, put.ends, passed), put_as (sym (text-passed c.args.c c.args.count c.if-c-eq-DONE.true)) put)
 
 -- refused
 
-refused : (c : goal.Start) → length (item "refused=" (digits c.args.c.refusal) ++ line_text " pair=" (digits c.args.c.place)) ≤ report_room
-refused c = refused-short c.args.c.refusal c.args.c.place (omega arith) (omega arith)
-
-whole : (c : goal.Start) → Room c.args.buffer.now 0 (item "refused=" (digits c.args.c.refusal) ++ line_text " pair=" (digits c.args.c.place))
-whole c = record { fits = omega (arith, refused c) }
-
 pub put_item-end-requires : goal.put_item-end-requires
-put_item-end-requires c = next-room _ (whole c) left-all
+put_item-end-requires c =
+    let refused : length (item "refused=" (digits c.args.c.refusal) ++ line_text " pair=" (digits c.args.c.place)) ≤ report_room =
+    refused-short c.args.c.refusal c.args.c.place (omega arith) (omega arith)
+    in
+    let whole : Room c.args.buffer.now 0 (item "refused=" (digits c.args.c.refusal) ++ line_text " pair=" (digits c.args.c.place)) =
+    record { fits = omega (arith, refused) }
+    in
+    next-room _ whole left-all
 
 pub put_line-requires-2 : goal.put_line-requires-2
 put_line-requires-2 c =
-    let item = c in
-    left-room (whole item) (left-next left-all item.put_item-end.ensures)
+    let refused : length (item "refused=" (digits c.args.c.refusal) ++ line_text " pair=" (digits c.args.c.place)) ≤ report_room =
+    refused-short c.args.c.refusal c.args.c.place (omega arith) (omega arith)
+    in
+    let whole : Room c.args.buffer.now 0 (item "refused=" (digits c.args.c.refusal) ++ line_text " pair=" (digits c.args.c.place)) =
+    record { fits = omega (arith, refused) }
+    in
+    left-room whole (left-next left-all c.put_item-end.ensures)
 
 pub returns : goal.returns
 returns c =
-    let line = c in
-    let item = line in
-    let test = item in
-    let start = test in
-    let put = left-last (left-next left-all item.put_item-end.ensures) line.put_line-2.ensures in
-    (omega (arith, put.ends, refused start), put_as (sym (text-refused start.args.c start.args.count test.if-c-eq-DONE.false)) put)
+    let refused : length (item "refused=" (digits c.args.c.refusal) ++ line_text " pair=" (digits c.args.c.place)) ≤ report_room =
+    refused-short c.args.c.refusal c.args.c.place (omega arith) (omega arith)
+    in
+    let put = left-last (left-next left-all c.put_item-end.ensures) c.put_line-2.ensures in
+    (omega (arith, put.ends, refused), put_as (sym (text-refused c.args.c c.args.count c.if-c-eq-DONE.false)) put)
 
 pub shape_of-buffer-then-c-eq-DONE : goal.shape_of-buffer-then-c-eq-DONE
 shape_of-buffer-then-c-eq-DONE c = put-length (returns-then-c-eq-DONE c).1

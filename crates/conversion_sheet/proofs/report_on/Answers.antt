@@ -79,8 +79,7 @@ returns-then-input-gt-LONGEST_INPUT c = rw (lt-ltb _ _ c.if-input-gt-LONGEST_INP
 
 pub slice_bounds-check-end : goal.slice_bounds-check-end
 slice_bounds-check-end c =
-    let first = c in
-    sym (length-take-le _ _ first.text_size-before.ensures.1)
+    sym (length-take-le _ _ c.text_size-before.ensures.1)
 
 pub slice_bounds-check-end-2 : goal.slice_bounds-check-end-2
 slice_bounds-check-end-2 c = sym (length-take-le _ _ c.text_size-after.ensures.1)
@@ -88,16 +87,11 @@ slice_bounds-check-end-2 c = sym (length-take-le _ _ c.text_size-after.ensures.1
 pub returns : goal.returns
 unfolding conversion_report
 returns c =
-    let count = c in
-    let check = count in
-    let pairs = check in
-    let part = pairs in
-    let first = part in
-    rw (le-ltb _ _ first.if-input-gt-LONGEST_INPUT.false)
+    rw (le-ltb _ _ c.if-input-gt-LONGEST_INPUT.false)
     (c.report_of-2.ensures
-    ∙ ((λ i. report_of (checked_text (check.check-c.ensures i) (count.pair_count.ensures i)))
+    ∙ ((λ i. report_of (checked_text (c.check-c.ensures i) (c.pair_count.ensures i)))
     ∙ (λ i. report_of
-    (checked_text (conversion_checked (take (first.text_size-before.ensures.0 i) (input part)) (take (size_is pairs i) (rest-is part i)) (numbers-are pairs i)) (pair_count (numbers-are pairs i))))))
+    (checked_text (conversion_checked (take (c.text_size-before.ensures.0 i) (input c)) (take (size_is c i) (rest-is c i)) (numbers-are c i)) (pair_count (numbers-are c i))))))
 
 pub slice_bounds-numbers-end : goal.slice_bounds-numbers-end
 slice_bounds-numbers-end c = few c

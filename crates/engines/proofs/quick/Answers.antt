@@ -9,12 +9,6 @@ use Rattle.bench.proofs.Passed.{KeyedPassed, keyed-passed}
 use Rattle.plain.proofs.Given.{given-refused, given-done}
 use Rattle.engines.proofs.quick.Goals as goal
 
-abbrev start : goal.Else-refusal-ne-DONE → goal.Start
-start e = e
-
-passed : (e : goal.Else-refusal-ne-DONE) → KeyedPassed (length (start e).args.key.now) (length (start e).args.iv.now) (length (start e).args.buf.now) 0 (start e).args.n (start e).args.skip
-passed e = keyed-passed _ _ _ _ _ _ _ (sym e.refusal_of-refusal.ensures ∙ e.if-refusal-ne-DONE.false)
-
 pub returns-then-refusal-ne-DONE : goal.returns-then-refusal-ne-DONE
 returns-then-refusal-ne-DONE c =
     let e = c.refusal_of-refusal.ensures in
@@ -22,24 +16,33 @@ returns-then-refusal-ne-DONE c =
     (e, sym no.0, sym no.1)
 
 pub key_of-requires : goal.key_of-requires
-key_of-requires c = (passed c).key-24
+key_of-requires c =
+    let passed : KeyedPassed (length (start c).args.key.now) (length (start c).args.iv.now) (length (start c).args.buf.now) 0 (start c).args.n (start c).args.skip =
+    keyed-passed _ _ _ _ _ _ _ (sym c.refusal_of-refusal.ensures ∙ c.if-refusal-ne-DONE.false)
+    in
+    passed.key-24
 
 pub iv_of-requires : goal.iv_of-requires
-iv_of-requires c = (passed c).iv-10
+iv_of-requires c =
+    let passed : KeyedPassed (length (start c).args.key.now) (length (start c).args.iv.now) (length (start c).args.buf.now) 0 (start c).args.n (start c).args.skip =
+    keyed-passed _ _ _ _ _ _ _ (sym c.refusal_of-refusal.ensures ∙ c.if-refusal-ne-DONE.false)
+    in
+    passed.iv-10
 
 pub write_keystream-made-requires : goal.write_keystream-made-requires
-write_keystream-made-requires c = let s = (passed c).span in (s.small, omega arith, s.streamed)
+write_keystream-made-requires c =
+    let passed : KeyedPassed (length (start c).args.key.now) (length (start c).args.iv.now) (length (start c).args.buf.now) 0 (start c).args.n (start c).args.skip =
+    keyed-passed _ _ _ _ _ _ _ (sym c.refusal_of-refusal.ensures ∙ c.if-refusal-ne-DONE.false)
+    in
+    let s = passed.span in (s.small, omega arith, s.streamed)
 
 pub returns : goal.returns
 returns c =
-    let ran = c in
-    let iv = ran in
-    let e = iv in
-    let a = (start e).args in
-    let yes = given-done a.algorithm a.key.now a.iv.now a.buf.now a.n a.skip (sym e.refusal_of-refusal.ensures ∙ e.if-refusal-ne-DONE.false) in (
-      e.refusal_of-refusal.ensures,
-      ran.write_keystream-made.ensures.0
-          ∙ (λ i. written a.buf.now (keystream a.algorithm (iv.key_of.ensures i) (iv.iv_of.ensures i)) 0 a.skip a.n)
+    let a = c.args in
+    let yes = given-done a.algorithm a.key.now a.iv.now a.buf.now a.n a.skip (sym c.refusal_of-refusal.ensures ∙ c.if-refusal-ne-DONE.false) in (
+      c.refusal_of-refusal.ensures,
+      c.write_keystream-made.ensures.0
+          ∙ (λ i. written a.buf.now (keystream a.algorithm (c.key_of.ensures i) (c.iv_of.ensures i)) 0 a.skip a.n)
           ∙ sym yes.0,
-      ran.write_keystream-made.ensures.1 ∙ sym yes.1,
+      c.write_keystream-made.ensures.1 ∙ sym yes.1,
     )

@@ -10,12 +10,10 @@ use Rattle.engines.proofs.write_keystream.Goals as goal
 
 pub returns : goal.returns
 returns c =
-    let ran = c in
-    let front = ran in
-    let a = front.args in
+    let a = c.args in
     let k = keystream a.algorithm a.ck a.iv in (
-      ran.xor_keystream.ensures.0
-          ∙ ap (λ (l : List ℕ). xored l k 0 a.skip a.n) front.clear_front.ensures
+      c.xor_keystream.ensures.0
+          ∙ ap (λ (l : List ℕ). xored l k 0 a.skip a.n) c.clear_front.ensures
           ∙ xored-cleared a.buf.now k 0 a.skip a.n,
-      ran.xor_keystream.ensures.2,
+      c.xor_keystream.ensures.2,
     )

@@ -8,6 +8,5 @@ use Rattle.faces.proofs.load_from.Goals as goal
 
 pub returns : goal.returns
 returns c =
-    let given = c in
-    let at = given.args in
-    c.load_of.ensures ∙ ap (λ (a : Asked). load_put at.bad (keyless at.f) at.number a at.key.now) given.asked_for-asked.ensures
+    let at = c.args in
+    c.load_of.ensures ∙ ap (λ (a : Asked). load_put at.bad (keyless at.f) at.number a at.key.now) c.asked_for-asked.ensures

@@ -4,16 +4,11 @@ use Rattle.fields.proofs.rights_refusal.Goals as goal
 
 pub returns : goal.returns
 returns c =
-    let two = c in
-    let one = two in
-    let network = one in
-    let place = network in
-    let usage = place in
     rw (
       c.refuse-3.ensures,
-      two.refuse-2.ensures,
-      one.refuse.ensures,
-      network.both_at_most-2.ensures,
-      place.both_at_most.ensures,
-      usage.is_use.ensures,
+      c.refuse-2.ensures,
+      c.refuse.ensures,
+      c.both_at_most-2.ensures,
+      c.both_at_most.ensures,
+      c.is_use.ensures,
     )

@@ -14,20 +14,15 @@ returns-then-read-ne-DONE c = rw (ne_eqb _ _ c.if-read-ne-DONE.true) c.not_gathe
 pub returns-then-is_filled : goal.returns-then-is_filled
 unfolding entered
 returns-then-is_filled c =
-    let test = c in
-    let slot = test in
-    rw (eq-eqb _ _ slot.if-read-ne-DONE.false, ap is_filled (sym slot.slot_or_empty.ensures) ∙ sym test.is_filled.ensures ∙ c.if-is_filled.true)
+    rw (eq-eqb _ _ c.if-read-ne-DONE.false, ap is_filled (sym c.slot_or_empty.ensures) ∙ sym c.is_filled.ensures ∙ c.if-is_filled.true)
     c.not_gathered-then-is_filled.ensures
 
 pub with_slot-requires : goal.with_slot-requires
 with_slot-requires c =
-    let read = c in
-    read.requires read.if-read-ne-DONE.false
+    c.requires c.if-read-ne-DONE.false
 
 pub returns : goal.returns
 returns c =
-    let test = c in
-    let slot = test in
     c.gathered_to.ensures
     ∙ (ap gathered_to c.with_slot.ensures
-    ∙ sym (enter-free _ _ slot.if-read-ne-DONE.false (ap is_filled (sym slot.slot_or_empty.ensures) ∙ sym test.is_filled.ensures ∙ c.if-is_filled.false)))
+    ∙ sym (enter-free _ _ c.if-read-ne-DONE.false (ap is_filled (sym c.slot_or_empty.ensures) ∙ sym c.is_filled.ensures ∙ c.if-is_filled.false)))

@@ -51,11 +51,9 @@ entered-is c = c.enter-next.ensures ∙ ap (entered (here c).loop.table) (read_i
 
 pub returns-then-not-next : goal.returns-then-not-next
 returns-then-not-next c =
-    let enter = c in
-    let read = enter in
     c.not_gathered.ensures
-    ∙ sym ((here read).loop.invariant.1
-    ∙ gather-stops _ (rest read) (some read) (ap (λ (g : Gathered). g.good) (sym (entered-is enter)) ∙ c.if-not-next.true))
+    ∙ sym ((here c).loop.invariant.1
+    ∙ gather-stops _ (rest c) (some c) (ap (λ (g : Gathered). g.good) (sym (entered-is c)) ∙ c.if-not-next.true))
 
 -- and some bytes were taken
 
@@ -96,3 +94,5 @@ pub returns : goal.returns
 returns c =
     let loop = c.loop-at in
     c.gathered_to.ensures ∙ sym (loop.invariant.1 ∙ gather-end _ _ (simp length-drop (omega arith)))
+
+-- UNPLACED helper entered-is is used otherwise

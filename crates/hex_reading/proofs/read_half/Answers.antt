@@ -14,14 +14,10 @@ returns-then-s-at c =
 
 pub returns-then-value-eq16 : goal.returns-then-value-eq16
 returns-then-value-eq16 c =
-    let digit = c in
-    let room = digit in
     c.wrong_at-then-value-eq16.ensures
-    ∙ sym (ap answer (on-good _ _ _ room.if-not-before.false ∙ half-no _ _ _ room.if-s-at.false digit.hex_value-value.ensures c.if-value-eq16.true))
+    ∙ sym (ap answer (on-good _ _ _ c.if-not-before.false ∙ half-no _ _ _ c.if-s-at.false c.hex_value-value.ensures c.if-value-eq16.true))
 
 pub returns : goal.returns
 returns c =
-    let digit = c in
-    let room = digit in
     c.good_to.ensures
-    ∙ sym (ap answer (on-good _ _ _ room.if-not-before.false ∙ half-yes _ _ _ room.if-s-at.false digit.hex_value-value.ensures c.if-value-eq16.false))
+    ∙ sym (ap answer (on-good _ _ _ c.if-not-before.false ∙ half-yes _ _ _ c.if-s-at.false c.hex_value-value.ensures c.if-value-eq16.false))

@@ -7,10 +7,7 @@ use Rattle.inv_bytes.proofs.product.Goals as goal
 
 pub returns : goal.returns
 returns c =
-    let eight = c in
-    let four = eight in
-    let two = four in
-    let a = two.args in
+    let a = c.args in
     (λ i. bit_xor (c.chosen.ensures i) (bit_xor (c.chosen-2.ensures i) (bit_xor (c.chosen-3.ensures i) (c.chosen-4.ensures i))))
-    ∙ product_is a.k a.b two.twice-two.result four.twice-four.result eight.twice-eight.result two.requires (search rules) (search rules) (search rules) (search rules)
-    two.twice-two.ensures four.twice-four.ensures eight.twice-eight.ensures
+    ∙ product_is a.k a.b c.twice-two.result c.twice-four.result c.twice-eight.result c.requires (search rules) (search rules) (search rules) (search rules)
+    c.twice-two.ensures c.twice-four.ensures c.twice-eight.ensures

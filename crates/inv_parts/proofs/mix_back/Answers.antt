@@ -18,14 +18,13 @@ loop-i-init c =
 
 pub loop-i-preserved : goal.loop-i-preserved
 loop-i-preserved c =
-    let at = c in
-    let i = at.loop-i.i in
-    let g = at.loop-i.invariant in
+    let i = c.loop-i.i in
+    let g = c.loop-i.invariant in
     let h : i < 112 = c.loop-i-test.true in (
       search rules,
       (
         fill_more g.1.0 (search rules) _ (c.inv_mixed_word.ensures ∙ ap inv_mixed_word (g.1.1 i (omega arith)) ∙ between-mixed i _ g.0.0 h),
-        λ k l. get_or-set_other at.loop-i.w i k c.inv_mixed_word.result 0 (λ q. omega arith) ∙ g.1.1 k (omega arith),
+        λ k l. get_or-set_other c.loop-i.w i k c.inv_mixed_word.result 0 (λ q. omega arith) ∙ g.1.1 k (omega arith),
       ),
     )
 

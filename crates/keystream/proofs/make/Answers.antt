@@ -15,8 +15,6 @@ encrypt_block-requires c = let pre = c.requires in (ap length pre.3.0 ∙ length
 pub returns : goal.returns
 unfolding block_of cipher
 returns c =
-    let made = c in
-    let called = made in
-    let a = called.args in
-    let block = made.encrypt_block.ensures ∙ (λ i. to_block (encrypted (called.requires.3.0 i) (to_state (made.plaintext.ensures i)))) in
+    let a = c.args in
+    let block = c.encrypt_block.ensures ∙ (λ i. to_block (encrypted (c.requires.3.0 i) (to_state (c.plaintext.ensures i)))) in
     (refl, ap (λ (b : List ℕ). set a.kept.now (a.j % 2) b) block)

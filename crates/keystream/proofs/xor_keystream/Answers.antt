@@ -15,10 +15,9 @@ xor_runs-requires c =
 
 pub returns : goal.returns
 returns c =
-    let ran = c in
-    let a = ran.args in
+    let a = c.args in
     let k = keystream a.algorithm a.ck a.iv in (
-      ran.xor_runs.ensures.0 ∙ xored-none _ k 0 0 (xored-bytes k (stream-lt _) a.buf.now a.start a.skip a.n),
-      ran.xor_runs.ensures.1,
-      ran.xor_runs.ensures.2 ∙ both-none a.skip a.n 0,
+      c.xor_runs.ensures.0 ∙ xored-none _ k 0 0 (xored-bytes k (stream-lt _) a.buf.now a.start a.skip a.n),
+      c.xor_runs.ensures.1,
+      c.xor_runs.ensures.2 ∙ both-none a.skip a.n 0,
     )

@@ -33,49 +33,45 @@ loop-done-init c =
 
 -- the function's entry, from where the next piece's size is known
 
-abbrev start : goal.After-piece-some → goal.Start
-start c = c
-
 -- the stream bit that is next, and its block
 
 abbrev at : goal.After-piece-some → ℕ
-at c = (start c).args.p.skip + c.loop-done.done
-
-some : (c : goal.After-piece-some) → 0 < c.piece-some.result
-some c = omega (arith, c.piece-some.ensures)
-
-in_block : (c : goal.After-piece-some) → at c % 256 + c.piece-some.result ≤ 256
-in_block c = omega (arith, c.piece-some.ensures)
-
-early : (c : goal.After-piece-some) → (start c).args.work.next ≤ (start c).args.p.skip / 256 + 1
-early c = (start c).requires.2 (omega arith)
-
-reachable : (c : goal.After-piece-some) → c.loop-done.made.next ≤ at c / 256 + 1
-reachable c =
-    let a = (start c).args in
-    let loop = c.loop-done in
-    next_small a.work.next a.p.skip loop.done c.piece-some.result (in_block c) (some c) loop.made.next loop.invariant.4 (early c)
+at c = c.args.p.skip + c.loop-done.done
 
 pub reach-made-requires : goal.reach-made-requires
 reach-made-requires c =
-    let piece = c in
-    let pre = (start piece).requires in
-    let loop = piece.loop-done in
+    let some : 0 < c.piece-some.result =
+    omega (arith, c.piece-some.ensures)
+    in
+    let in_block : at c % 256 + c.piece-some.result ≤ 256 =
+    omega (arith, c.piece-some.ensures)
+    in
+    let early : (start c).args.work.next ≤ (start c).args.p.skip / 256 + 1 =
+    c.requires.2 (omega arith)
+    in
+    let reachable : c.loop-done.made.next ≤ at c / 256 + 1 =
+    let a = c.args in
+    let loop = c.loop-done in
+    next_small a.work.next a.p.skip loop.done c.piece-some.result in_block some loop.made.next loop.invariant.4 early
+    in
+    let pre = c.requires in
+    let loop = c.loop-done in
     let streamed = pre.1.streamed in
-    (reachable piece, loop.invariant.6, omega (arith, streamed), loop.invariant.7, pre.5)
+    (reachable, loop.invariant.6, omega (arith, streamed), loop.invariant.7, pre.5)
 
 pub overflow_add-start : goal.overflow_add-start
 overflow_add-start c =
-    let piece = c in
-    let inside = (start piece).requires.1.inside in
-    record { fits = omega (arith, inside, piece.loop-done.invariant.0) }
+    let inside = c.requires.1.inside in
+    record { fits = omega (arith, inside, c.loop-done.invariant.0) }
 
 pub xor_block-requires : goal.xor_block-requires
 xor_block-requires c =
-    let piece = c in
-    let inside = (start piece).requires.1.inside in
-    let loop = piece.loop-done in
-    (omega (arith, inside, loop.invariant.0, loop.invariant.1, piece.piece-some.ensures), in_block piece)
+    let in_block : at c % 256 + c.piece-some.result ≤ 256 =
+    omega (arith, c.piece-some.ensures)
+    in
+    let inside = c.requires.1.inside in
+    let loop = c.loop-done in
+    (omega (arith, inside, loop.invariant.0, loop.invariant.1, c.piece-some.ensures), in_block)
 
 -- the blocks of the run so far, and then one more or none
 
@@ -85,29 +81,40 @@ later first blocks next next' m j e n h = rw (e, n, ← h) (add_assoc first (nex
 
 pub loop-done-preserved : goal.loop-done-preserved
 loop-done-preserved c =
-    let turn = c in
-    let reached = turn in
-    let piece = reached in
-    let a = (start piece).args in
-    let loop = piece.loop-done in
-    let p = piece.piece-some.result in
-    let j = at piece / 256 in
-    let e = reached.reach-made.ensures.0 in
-    let h = in_block piece in
+    let some : 0 < c.piece-some.result =
+    omega (arith, c.piece-some.ensures)
+    in
+    let in_block : at c % 256 + c.piece-some.result ≤ 256 =
+    omega (arith, c.piece-some.ensures)
+    in
+    let early : (start c).args.work.next ≤ (start c).args.p.skip / 256 + 1 =
+    c.requires.2 (omega arith)
+    in
+    let reachable : c.loop-done.made.next ≤ at c / 256 + 1 =
+    let a = c.args in
+    let loop = c.loop-done in
+    next_small a.work.next a.p.skip loop.done c.piece-some.result in_block some loop.made.next loop.invariant.4 early
+    in
+    let a = c.args in
+    let loop = c.loop-done in
+    let p = c.piece-some.result in
+    let j = at c / 256 in
+    let e = c.reach-made.ensures.0 in
+    let h = in_block in
     let next = ap (λ (r : Work). r.next) e ∙ at_next loop.made j in (
-      omega (arith, piece.piece-some.ensures, loop.invariant.0),
-      ap length turn.xor_block.ensures ∙ length-xored _ _ _ _ _ ∙ loop.invariant.1,
-      turn.xor_block.ensures
-          ∙ (λ i. xored (loop.invariant.2 i) (bit_at (held_at a.mode j _ reached.reach-made.ensures.1 i)) (a.p.start + loop.done) (at piece % 256) p)
+      omega (arith, c.piece-some.ensures, loop.invariant.0),
+      ap length c.xor_block.ensures ∙ length-xored _ _ _ _ _ ∙ loop.invariant.1,
+      c.xor_block.ensures
+          ∙ (λ i. xored (loop.invariant.2 i) (bit_at (held_at a.mode j _ c.reach-made.ensures.1 i)) (a.p.start + loop.done) (at c % 256) p)
           ∙ xored-stretch (block_of a.mode) a.buf.now a.p.start a.p.skip loop.done p h,
       ap (λ (r : Work). r.schedules) e ∙ at-schedules loop.made j ∙ loop.invariant.3,
-      next ∙ next-later a.work.next a.p.skip loop.done p h (some piece),
+      next ∙ next-later a.work.next a.p.skip loop.done p h some,
       ap (λ (r : Work). r.blocks) e
-          ∙ at-blocks loop.made j (reachable piece)
-          ∙ later a.work.blocks loop.made.blocks loop.made.next reached.reach-made.result.next _ _ loop.invariant.5 next
-          (made-later a.work.next a.p.skip loop.done p h (some piece) loop.made.next loop.invariant.4 (early piece)),
-      subst (λ (r : Work). r.blocks ≤ r.next) (sym e) (at-few loop.made j loop.invariant.6 (reachable piece)),
-      subst (λ (m : ℕ). Held a.mode m reached.reach-made.new.kept) (sym next) reached.reach-made.ensures.1,
+          ∙ at-blocks loop.made j reachable
+          ∙ later a.work.blocks loop.made.blocks loop.made.next c.reach-made.result.next _ _ loop.invariant.5 next
+          (made-later a.work.next a.p.skip loop.done p h some loop.made.next loop.invariant.4 early),
+      subst (λ (r : Work). r.blocks ≤ r.next) (sym e) (at-few loop.made j loop.invariant.6 reachable),
+      subst (λ (m : ℕ). Held a.mode m c.reach-made.new.kept) (sym next) c.reach-made.ensures.1,
     )
 
 pub returns : goal.returns

@@ -32,38 +32,29 @@ loop-turn-init c =
 
 -- the function's entry, from inside the loop
 
-abbrev start : goal.In-loop-turn → goal.Start
-start c = c
-
 pub xor_run-made-requires : goal.xor_run-made-requires
 xor_run-made-requires c =
-    let turn = c in
-    let loop = turn.loop-turn in
-    let made = turn in
-    let s = start turn in
-    let p = s.args.p in
-    let q = s.args.q in
+    let loop = c.loop-turn in
+    let p = c.args.p in
+    let q = c.args.q in
     let inv = loop.invariant in
     let run = inv.2 in (
-      omega (arith, inv.1, s.pre.0),
-      subst (Fits loop.buf) (sym run) (fits-long loop.buf s.args.buf.now (run_at p q loop.turn) inv.1 (fits-at p q s.args.buf.now s.pre.1 s.pre.2 loop.turn)),
-      subst (λ (r : Run). 0 < r.n → loop.made.next ≤ r.skip / 256 + 1) (sym run) (λ h. rw inv.5 (early-at p q s.pre.3 loop.turn turn.loop-turn-test.true h)),
+      omega (arith, inv.1, c.requires.0),
+      subst (Fits loop.buf) (sym run) (fits-long loop.buf c.args.buf.now (run_at p q loop.turn) inv.1 (fits-at p q c.args.buf.now c.requires.1 c.requires.2 loop.turn)),
+      subst (λ (r : Run). 0 < r.n → loop.made.next ≤ r.skip / 256 + 1) (sym run) (λ h. rw inv.5 (early-at p q c.requires.3 loop.turn c.loop-turn-test.true h)),
       inv.7,
       inv.8,
-      (made.begin-made.ensures.0, (made.s_box_table-table.ensures, turn.product_table-mixes.ensures)),
+      (c.begin-made.ensures.0, (c.s_box_table-table.ensures, c.product_table-mixes.ensures)),
     )
 
 pub loop-turn-preserved : goal.loop-turn-preserved
 loop-turn-preserved c =
-    let ran = c in
-    let turn = ran in
-    let loop = turn.loop-turn in
-    let s = start turn in
+    let loop = c.loop-turn in
     let inv = loop.invariant in
-    let e = ran.xor_run-made.ensures in
-    let p = s.args.p in
-    let q = s.args.q in
-    let k = stream_bit (block_of turn.Mode-of.result) in
+    let e = c.xor_run-made.ensures in
+    let p = c.args.p in
+    let q = c.args.q in
+    let k = stream_bit (block_of c.Mode-of.result) in
     let run = inv.2 in
     let next = e.2 ∙ (λ i. block_after (inv.5 i) (run i).skip (run i).n) ∙ sym (next-after p q loop.turn) in (
       omega arith,
@@ -71,7 +62,7 @@ loop-turn-preserved c =
       sym (run-after p q loop.turn),
       e.0
           ∙ (λ i. through_run (inv.3 i) k (run i))
-          ∙ sym (buf-after p q k s.args.buf.now loop.turn),
+          ∙ sym (buf-after p q k c.args.buf.now loop.turn),
       e.1 ∙ inv.4,
       next,
       e.3 ∙ (λ i. inv.6 i + (next i - max (inv.5 i) ((run i).skip / 256))) ∙ sym (made_after p q loop.turn),
@@ -82,14 +73,12 @@ loop-turn-preserved c =
 pub returns : goal.returns
 returns c =
     let loop = c.loop-turn in
-    let mode = c in
-    let s = mode in
-    let p = s.args.p in
-    let q = s.args.q in
+    let p = c.args.p in
+    let q = c.args.q in
     let all : loop.turn ≡ 2 = omega arith in (
       loop.invariant.3
-          ∙ ap (buf_at p q (stream_bit (block_of mode.Mode-of.result)) s.args.buf.now) all
-          ∙ ap (λ (m : Mode). through_run (through_run s.args.buf.now (stream_bit (block_of m)) p) (stream_bit (block_of m)) q) mode.Mode-of.ensures,
+          ∙ ap (buf_at p q (stream_bit (block_of c.Mode-of.result)) c.args.buf.now) all
+          ∙ ap (λ (m : Mode). through_run (through_run c.args.buf.now (stream_bit (block_of m)) p) (stream_bit (block_of m)) q) c.Mode-of.ensures,
       loop.invariant.4,
-      loop.invariant.6 ∙ ap (made_at p q) all ∙ both-made p q s.requires.3,
+      loop.invariant.6 ∙ ap (made_at p q) all ∙ both-made p q c.requires.3,
     )

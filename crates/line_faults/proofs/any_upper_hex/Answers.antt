@@ -9,13 +9,11 @@ use Rattle.line_faults.proofs.any_upper_hex.Goals as goal
 
 pub returns-then-is_upper_hex : goal.returns-then-is_upper_hex
 returns-then-is_upper_hex c =
-    let test = c in
-    sym (test.loop-i.invariant ∙ upper-here _ _ test.loop-i-test.true (sym c.is_upper_hex.ensures ∙ c.if-is_upper_hex.true))
+    sym (c.loop-i.invariant ∙ upper-here _ _ c.loop-i-test.true (sym c.is_upper_hex.ensures ∙ c.if-is_upper_hex.true))
 
 pub loop-i-preserved : goal.loop-i-preserved
 loop-i-preserved c =
-    let test = c in
-    test.loop-i.invariant ∙ upper-on _ _ test.loop-i-test.true (sym c.is_upper_hex.ensures ∙ c.if-is_upper_hex.false)
+    c.loop-i.invariant ∙ upper-on _ _ c.loop-i-test.true (sym c.is_upper_hex.ensures ∙ c.if-is_upper_hex.false)
 
 pub returns : goal.returns
 returns c = sym (c.loop-i.invariant ∙ upper-end _ _ c.loop-i-test.false)

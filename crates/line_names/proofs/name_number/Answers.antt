@@ -13,13 +13,11 @@ loop-k-init c = refl
 
 pub returns-then-is_name : goal.returns-then-is_name
 returns-then-is_name c =
-    let test = c in
-    sym (test.loop-k.invariant ∙ number-here _ _ test.loop-k-test.true (sym c.is_name.ensures ∙ c.if-is_name.true))
+    sym (c.loop-k.invariant ∙ number-here _ _ c.loop-k-test.true (sym c.is_name.ensures ∙ c.if-is_name.true))
 
 pub loop-k-preserved : goal.loop-k-preserved
 loop-k-preserved c =
-    let test = c in
-    test.loop-k.invariant ∙ number-on _ _ test.loop-k-test.true (sym c.is_name.ensures ∙ c.if-is_name.false)
+    c.loop-k.invariant ∙ number-on _ _ c.loop-k-test.true (sym c.is_name.ensures ∙ c.if-is_name.false)
 
 pub returns : goal.returns
 returns c = sym (c.loop-k.invariant ∙ number-none _ _ c.loop-k-test.false)

@@ -17,13 +17,11 @@ loop-i-init c = (c.if-s-t.false, refl)
 
 pub returns-then-s-i : goal.returns-then-s-i
 returns-then-s-i c =
-    let test = c in
-    sym (test.loop-i.invariant.1 ∙ same-other _ _ _ test.loop-i.invariant.0 test.loop-i-test.true c.if-s-i.true)
+    sym (c.loop-i.invariant.1 ∙ same-other _ _ _ c.loop-i.invariant.0 c.loop-i-test.true c.if-s-i.true)
 
 pub loop-i-preserved : goal.loop-i-preserved
 loop-i-preserved c =
-    let test = c in
-    (test.loop-i.invariant.0, test.loop-i.invariant.1 ∙ same-on _ _ _ test.loop-i.invariant.0 test.loop-i-test.true c.if-s-i.false)
+    (c.loop-i.invariant.0, c.loop-i.invariant.1 ∙ same-on _ _ _ c.loop-i.invariant.0 c.loop-i-test.true c.if-s-i.false)
 
 pub returns : goal.returns
 returns c = sym (c.loop-i.invariant.1 ∙ same_end _ _ _ c.loop-i.invariant.0 c.loop-i-test.false)

@@ -11,11 +11,9 @@ use Rattle.line_parts.proofs.is_spaced.Goals as goal
 
 pub returns-then-before-gt0 : goal.returns-then-before-gt0
 returns-then-before-gt0 c =
-    let calls = c in
-    sym (spaced-before _ (omega (arith, calls.trailing-before.ensures ∙ ap (trailing space) calls.before_equals.ensures)))
+    sym (spaced-before _ (omega (arith, c.trailing-before.ensures ∙ ap (trailing space) c.before_equals.ensures)))
 
 pub returns : goal.returns
 returns c =
-    let calls = c in
-    ap (ltb 0) (calls.leading-after.ensures ∙ ap (leading space) calls.after_equals.ensures)
-    ∙ sym (spaced-after _ (omega (arith, calls.trailing-before.ensures ∙ ap (trailing space) calls.before_equals.ensures)))
+    ap (ltb 0) (c.leading-after.ensures ∙ ap (leading space) c.after_equals.ensures)
+    ∙ sym (spaced-after _ (omega (arith, c.trailing-before.ensures ∙ ap (trailing space) c.before_equals.ensures)))

@@ -13,13 +13,11 @@ loop-i-init c = (refl, omega (arith, last-all c.args.b c.args.s.now))
 
 pub returns-then-s-n : goal.returns-then-s-n
 returns-then-s-n c =
-    let loop = c in
-    omega (arith, last-other loop.args.b loop.args.s.now loop.loop-i.i c.loop-i-test.true c.if-s-n.true)
+    omega (arith, last-other c.args.b c.args.s.now c.loop-i.i c.loop-i-test.true c.if-s-n.true)
 
 pub loop-i-preserved : goal.loop-i-preserved
 loop-i-preserved c =
-    let loop = c in
-    (refl, omega (arith, last_on loop.args.b loop.args.s.now loop.loop-i.i c.loop-i-test.true c.if-s-n.false))
+    (refl, omega (arith, last_on c.args.b c.args.s.now c.loop-i.i c.loop-i-test.true c.if-s-n.false))
 
 pub returns : goal.returns
 returns c = omega (arith, last_none c.args.b c.args.s.now c.loop-i.i c.loop-i-test.false)

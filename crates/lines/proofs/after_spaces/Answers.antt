@@ -16,20 +16,17 @@ loop-i-init c =
 
 pub overflow_add-at : goal.overflow_add-at
 overflow_add-at c =
-    let loop = c in
-    let args = loop.args in
-    record { fits = omega (arith, step-within space args.line.now loop.loop-i.at _ c.piece_length-at.ensures loop.loop-i.invariant.0) }
+    let args = c.args in
+    record { fits = omega (arith, step-within space args.line.now c.loop-i.at _ c.piece_length-at.ensures c.loop-i.invariant.0) }
 
 pub loop-i-preserved : goal.loop-i-preserved
 loop-i-preserved c =
-    let loop = c in
-    let args = loop.args in (
-      step-within space args.line.now loop.loop-i.at _ c.piece_length-at.ensures loop.loop-i.invariant.0,
-      loop.loop-i.invariant.1 ∙ step-on args.line.now args.k loop.loop-i.i loop.loop-i.at _ c.piece_length-at.ensures c.loop-i-test.true,
+    let args = c.args in (
+      step-within space args.line.now c.loop-i.at _ c.piece_length-at.ensures c.loop-i.invariant.0,
+      c.loop-i.invariant.1 ∙ step-on args.line.now args.k c.loop-i.i c.loop-i.at _ c.piece_length-at.ensures c.loop-i-test.true,
     )
 
 pub returns : goal.returns
 returns c =
-    let loop = c in
-    let args = loop.args in
-    sym (loop.loop-i.invariant.1 ∙ step-all args.line.now args.k loop.loop-i.i loop.loop-i.at c.loop-i-test.false)
+    let args = c.args in
+    sym (c.loop-i.invariant.1 ∙ step-all args.line.now args.k c.loop-i.i c.loop-i.at c.loop-i-test.false)

@@ -16,10 +16,9 @@ overflow_add-line c = record { fits = omega (arith, c.well_formed.0.1) }
 
 pub loop-i-preserved : goal.loop-i-preserved
 loop-i-preserved c =
-    let loop = c in
     ⊎_elim
-    (λ w. (omega arith, omega (arith, w.1), w.1 ∙ ap (◌+ 1) loop.loop-i.invariant.2 ∙ sym (line-next _ _ (omega arith) w.0.taken)))
-    (λ w. (omega arith, omega (arith, w.1), w.1 ∙ loop.loop-i.invariant.2 ∙ sym (line_same _ _ (omega arith) w.0.left)))
+    (λ w. (omega arith, omega (arith, w.1), w.1 ∙ ap (◌+ 1) c.loop-i.invariant.2 ∙ sym (line-next _ _ (omega arith) w.0.taken)))
+    (λ w. (omega arith, omega (arith, w.1), w.1 ∙ c.loop-i.invariant.2 ∙ sym (line_same _ _ (omega arith) w.0.left)))
     c.if-text-i-eq10.branch
 
 pub returns : goal.returns

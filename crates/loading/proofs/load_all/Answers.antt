@@ -48,64 +48,81 @@ module _ (c : tie.After-struct-known invariant-loop decreases-loop) where
 
 pub returns-then-read-ne-DONE : goal.returns-then-read-ne-DONE
 returns-then-read-ne-DONE c =
-    let read = c in
-    c.refused.ensures ∙ sym (whole read ∙ text-refused (left read) _ _ (rest read) (some read) (read_is read) c.if-read-ne-DONE.true)
+    c.refused.ensures ∙ sym (whole c ∙ text-refused (left c) _ _ (rest c) (some c) (read_is c) c.if-read-ne-DONE.true)
 
 pub returns-then-change-ne-DONE : goal.returns-then-change-ne-DONE
 returns-then-change-ne-DONE c =
-    let load = c in
-    let test = load in
-    let read = test in
     c.refused-then-change-ne-DONE.ensures
-    ∙ sym (whole read
-    ∙ load-refused (left read) (here read).loop.table _ (rest read) (some read) (read_is read) test.if-read-ne-DONE.false load.asked.ensures load.load-change.ensures c.if-change-ne-DONE.true)
+    ∙ sym (whole c
+    ∙ load-refused (left c) (here c).loop.table _ (rest c) (some c) (read_is c) c.if-read-ne-DONE.false c.asked.ensures c.load-change.ensures c.if-change-ne-DONE.true)
 
 -- a record is loaded, and some bytes were taken
 
-abbrev read_at : goal.After-struct_known-in-loop-at-2-1 → goal.After-struct_known-1
-read_at c = c
-
 abbrev start : goal.After-struct_known-in-loop-at-2-1 → goal.Start
-start c = (here (read_at c))
-
-took : (c : goal.After-struct_known-in-loop-at-2-1) → Taken (rest (read_at c)) (read_at c).read-record.result.used
-took c =
-    let read = read_at c in
-    let e = read_is read in
-    subst (λ (x : RecordRead). Taken (rest read) x.used) (sym e)
-    (taken (rest read) (ap (λ (x : RecordRead). x.refusal) (sym e) ∙ c.if-read-ne-DONE.false))
+start c = (here c)
 
 -- the place moves on, and stays within the sheet
 
-onward : (c : goal.After-struct_known-in-loop-at-2-1)
-    → (0 < (read_at c).read-record.result.used) × ((here (read_at c)).loop.at + (read_at c).read-record.result.used ≤ length (sheet (read_at c)))
-onward c =
-    let t = took c in
-    (t.some, omega (arith, t.within, length-drop (here (read_at c)).loop.at (sheet (read_at c))))
-
 pub overflow_add-at : goal.overflow_add-at
-overflow_add-at c = let o = onward c in record { fits = omega (arith, (start c).well_formed.0.1) }
+overflow_add-at c =
+    let took : Taken (rest (read_at c)) (read_at c).read-record.result.used =
+    let e = read_is c in
+    subst (λ (x : RecordRead). Taken (rest c) x.used) (sym e)
+    (taken (rest c) (ap (λ (x : RecordRead). x.refusal) (sym e) ∙ c.if-read-ne-DONE.false))
+    in
+    let onward : (0 < (read_at c).read-record.result.used) × ((here (read_at c)).loop.at + (read_at c).read-record.result.used ≤ length (sheet (read_at c))) =
+    let t = took in
+    (t.some, omega (arith, t.within, length-drop (here c).loop.at (sheet c)))
+    in
+    let o = onward in record { fits = omega (arith, (start c).well_formed.0.1) }
 
 pub overflow_add-position : goal.overflow_add-position
-overflow_add-position c = let o = onward c in record { fits = omega (arith, (start c).well_formed.0.1) }
+overflow_add-position c =
+    let took : Taken (rest (read_at c)) (read_at c).read-record.result.used =
+    let e = read_is c in
+    subst (λ (x : RecordRead). Taken (rest c) x.used) (sym e)
+    (taken (rest c) (ap (λ (x : RecordRead). x.refusal) (sym e) ∙ c.if-read-ne-DONE.false))
+    in
+    let onward : (0 < (read_at c).read-record.result.used) × ((here (read_at c)).loop.at + (read_at c).read-record.result.used ≤ length (sheet (read_at c))) =
+    let t = took in
+    (t.some, omega (arith, t.within, length-drop (here c).loop.at (sheet c)))
+    in
+    let o = onward in record { fits = omega (arith, (start c).well_formed.0.1) }
 
 pub loop-at-smaller : goal.loop-at-smaller
-loop-at-smaller c = let o = onward c in omega arith
+loop-at-smaller c =
+    let took : Taken (rest (read_at c)) (read_at c).read-record.result.used =
+    let e = read_is c in
+    subst (λ (x : RecordRead). Taken (rest c) x.used) (sym e)
+    (taken (rest c) (ap (λ (x : RecordRead). x.refusal) (sym e) ∙ c.if-read-ne-DONE.false))
+    in
+    let onward : (0 < (read_at c).read-record.result.used) × ((here (read_at c)).loop.at + (read_at c).read-record.result.used ≤ length (sheet (read_at c))) =
+    let t = took in
+    (t.some, omega (arith, t.within, length-drop (here c).loop.at (sheet c)))
+    in
+    let o = onward in omega arith
 
 pub loop-at-preserved : goal.loop-at-preserved
 loop-at-preserved c =
-    let o = onward c in
-    let read = read_at c in
-    let loop = (here read).loop in
-    let used = read.read-record.result.used in
-    let load = c in
-    let z : left read ≡ length (sheet read) + 1 - (loop.position + 1) = omega arith in (
+    let took : Taken (rest (read_at c)) (read_at c).read-record.result.used =
+    let e = read_is c in
+    subst (λ (x : RecordRead). Taken (rest c) x.used) (sym e)
+    (taken (rest c) (ap (λ (x : RecordRead). x.refusal) (sym e) ∙ c.if-read-ne-DONE.false))
+    in
+    let onward : (0 < (read_at c).read-record.result.used) × ((here (read_at c)).loop.at + (read_at c).read-record.result.used ≤ length (sheet (read_at c))) =
+    let t = took in
+    (t.some, omega (arith, t.within, length-drop (here c).loop.at (sheet c)))
+    in
+    let o = onward in
+    let loop = (here c).loop in
+    let used = c.read_record-read.result.used in
+    let z : left c ≡ length (sheet c) + 1 - (loop.position + 1) = omega arith in (
       omega arith,
       omega arith,
       o.1,
-      whole read
-          ∙ load-next (left read) loop.table _ (rest read) (some read) (read_is read) load.if-read-ne-DONE.false load.asked.ensures load.load-change.ensures c.if-change-ne-DONE.false
-          ∙ (λ i. load_within (z i) load.load-change.result.table (loop.position + 1) (drop-drop used loop.at (sheet read) i)),
+      whole c
+          ∙ load-next (left c) loop.table _ (rest c) (some c) (read_is c) c.if-read-ne-DONE.false c.asked.ensures c.load-change.ensures c.if-change-ne-DONE.false
+          ∙ (λ i. load_within (z i) c.load-change.result.table (loop.position + 1) (drop-drop used loop.at (sheet c) i)),
     )
 
 pub returns : goal.returns

@@ -10,16 +10,14 @@ put_bytes-requires c = room_as (gained-form _ c.if-k-eq-FORM.true) c.requires
 
 pub returns-then-k-eq-FORM : goal.returns-then-k-eq-FORM
 returns-then-k-eq-FORM c =
-    let call = c in
-    put_as (sym (gained-form _ call.if-k-eq-FORM.true)) call.put_bytes.ensures
+    put_as (sym (gained-form _ c.if-k-eq-FORM.true)) c.put_bytes.ensures
 
 pub put_bytes-requires-2 : goal.put_bytes-requires-2
 put_bytes-requires-2 c = room_as (gained-code _ c.if-k-eq-FORM.false) c.requires
 
 pub returns : goal.returns
 returns c =
-    let call = c in
-    put_as (sym (gained-code _ call.if-k-eq-FORM.false)) call.put_bytes-2.ensures
+    put_as (sym (gained-code _ c.if-k-eq-FORM.false)) c.put_bytes-2.ensures
 
 pub shape_of-buffer-then-k-eq-FORM : goal.shape_of-buffer-then-k-eq-FORM
 shape_of-buffer-then-k-eq-FORM c = put-length (returns-then-k-eq-FORM c)

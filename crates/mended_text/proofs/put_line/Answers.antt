@@ -10,21 +10,15 @@ put_name-value-requires c = room-first _ (room_as (line-parts _ _ _) c.requires)
 
 pub put_value-end-requires : goal.put_value-end-requires
 put_value-end-requires c =
-    let name = c in
-    room-first _ (room-then name.put_name-value.ensures (room_as (line-parts _ _ _) name.requires))
+    room-first _ (room-then c.put_name-value.ensures (room_as (line-parts _ _ _) c.requires))
 
 pub put_bytes-requires : goal.put_bytes-requires
 put_bytes-requires c =
-    let value = c in
-    let name = value in
-    room-then value.put_value-end.ensures (room-then name.put_name-value.ensures (room_as (line-parts _ _ _) name.requires))
+    room-then c.put_value-end.ensures (room-then c.put_name-value.ensures (room_as (line-parts _ _ _) c.requires))
 
 pub returns : goal.returns
 returns c =
-    let end = c in
-    let value = end in
-    let name = value in
-    put_as (sym (line-parts _ _ _)) (put_then name.put_name-value.ensures (put_then value.put_value-end.ensures end.put_bytes.ensures))
+    put_as (sym (line-parts _ _ _)) (put_then c.put_name-value.ensures (put_then c.put_value-end.ensures c.put_bytes.ensures))
 
 pub shape_of-buffer : goal.shape_of-buffer
 shape_of-buffer c = put-length (returns c)

@@ -18,42 +18,34 @@ loop-i-init c =
 
 pub overflow_add-buffer : goal.overflow_add-buffer
 overflow_add-buffer c =
-    let loop = c in
-    let start = loop in
-    record { fits = omega (arith, start.requires.fits, length-lowered start.args.bytes.now, loop.loop-i.invariant.1) }
+    record { fits = omega (arith, c.requires.fits, length-lowered c.args.bytes.now, c.loop-i.invariant.1) }
 
 pub bounds-buffer-at : goal.bounds-buffer-at
 bounds-buffer-at c =
-    let loop = c in
-    let start = loop in
-    omega (arith, start.requires.fits, length-lowered start.args.bytes.now, loop.loop-i.invariant.1)
+    omega (arith, c.requires.fits, length-lowered c.args.bytes.now, c.loop-i.invariant.1)
 
 pub loop-i-preserved : goal.loop-i-preserved
 loop-i-preserved c =
-    let test = c in
-    let loop = test in
-    let args = loop.args in
+    let args = c.args in
     let bytes = args.bytes.now in
-    let i = loop.loop-i.i in (
+    let i = c.loop-i.i in (
       omega arith,
-      simp length-set loop.loop-i.invariant.1,
-      loop.loop-i.invariant.2
-          ∙ put-more loop.loop-i.buffer args.at (lowered bytes) i (omega (arith, length-lowered bytes))
-          ∙ ap (λ (b : ℕ). sets (set loop.loop-i.buffer (args.at + i) b) (args.at + (i + 1)) (drop (i + 1) (lowered bytes)))
-          (lowered-at bytes i test.loop-i-test.true ∙ sym c.lower_hex-b.ensures),
+      simp length-set c.loop-i.invariant.1,
+      c.loop-i.invariant.2
+          ∙ put-more c.loop-i.buffer args.at (lowered bytes) i (omega (arith, length-lowered bytes))
+          ∙ ap (λ (b : ℕ). sets (set c.loop-i.buffer (args.at + i) b) (args.at + (i + 1)) (drop (i + 1) (lowered bytes)))
+          (lowered-at bytes i c.loop-i-test.true ∙ sym c.lower_hex-b.ensures),
     )
 
 pub overflow_add-result : goal.overflow_add-result
 overflow_add-result c =
-    let start = c in
-    record { fits = omega (arith, start.requires.fits, length-lowered start.args.bytes.now) }
+    record { fits = omega (arith, c.requires.fits, length-lowered c.args.bytes.now) }
 
 pub returns : goal.returns
 returns c =
-    let loop = c in
-    let bytes = loop.args.bytes.now in
-    let all : length (lowered bytes) ≤ loop.loop-i.i = omega (arith, length-lowered bytes) in
+    let bytes = c.args.bytes.now in
+    let all : length (lowered bytes) ≤ c.loop-i.i = omega (arith, length-lowered bytes) in
     record {
-      holds = sym (loop.loop-i.invariant.2 ∙ put_all _ _ _ _ all);
+      holds = sym (c.loop-i.invariant.2 ∙ put_all _ _ _ _ all);
       ends = omega (arith, length-lowered bytes);
     }

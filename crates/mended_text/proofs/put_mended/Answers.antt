@@ -17,34 +17,37 @@ rest-digits-requires c =
 
 -- the value without its zeros
 
-digits : (c : goal.After-rest-digits)
-    → let args = c.args in
-    c.rest-digits.result.now ≡ drop (zeros_dropped args.k args.value.now) args.value.now
-digits c =
-    let args = c.args in
-    c.rest-digits.ensures ∙ ap (λ (n : ℕ). drop n args.value.now) c.zeros_dropped.ensures
-
 pub put_lowered-requires : goal.put_lowered-requires
 put_lowered-requires c =
-    let test = c in
-    room_as (mended-key _ _ test.if-k-eq-KEY.true ∙ ap lowered (sym (digits test))) test.requires
+    let digits : let args = c.args in c.rest-digits.result.now ≡ drop (zeros_dropped args.k args.value.now) args.value.now =
+    let args = c.args in
+    c.rest-digits.ensures ∙ ap (λ (n : ℕ). drop n args.value.now) c.zeros_dropped.ensures
+    in
+    room_as (mended-key _ _ c.if-k-eq-KEY.true ∙ ap lowered (sym digits)) c.requires
 
 pub returns-then-k-eq-KEY : goal.returns-then-k-eq-KEY
 returns-then-k-eq-KEY c =
-    let call = c in
-    let test = call in
-    put_as (ap lowered (digits test) ∙ sym (mended-key _ _ test.if-k-eq-KEY.true)) call.put_lowered.ensures
+    let digits : let args = c.args in c.rest-digits.result.now ≡ drop (zeros_dropped args.k args.value.now) args.value.now =
+    let args = c.args in
+    c.rest-digits.ensures ∙ ap (λ (n : ℕ). drop n args.value.now) c.zeros_dropped.ensures
+    in
+    put_as (ap lowered digits ∙ sym (mended-key _ _ c.if-k-eq-KEY.true)) c.put_lowered.ensures
 
 pub put_bytes-requires : goal.put_bytes-requires
 put_bytes-requires c =
-    let test = c in
-    room_as (mended-other _ _ test.if-k-eq-KEY.false ∙ sym (digits test)) test.requires
+    let digits : let args = c.args in c.rest-digits.result.now ≡ drop (zeros_dropped args.k args.value.now) args.value.now =
+    let args = c.args in
+    c.rest-digits.ensures ∙ ap (λ (n : ℕ). drop n args.value.now) c.zeros_dropped.ensures
+    in
+    room_as (mended-other _ _ c.if-k-eq-KEY.false ∙ sym digits) c.requires
 
 pub returns : goal.returns
 returns c =
-    let call = c in
-    let test = call in
-    put_as (digits test ∙ sym (mended-other _ _ test.if-k-eq-KEY.false)) call.put_bytes.ensures
+    let digits : let args = c.args in c.rest-digits.result.now ≡ drop (zeros_dropped args.k args.value.now) args.value.now =
+    let args = c.args in
+    c.rest-digits.ensures ∙ ap (λ (n : ℕ). drop n args.value.now) c.zeros_dropped.ensures
+    in
+    put_as (digits ∙ sym (mended-other _ _ c.if-k-eq-KEY.false)) c.put_bytes.ensures
 
 pub shape_of-buffer-then-k-eq-KEY : goal.shape_of-buffer-then-k-eq-KEY
 shape_of-buffer-then-k-eq-KEY c = put-length (returns-then-k-eq-KEY c)

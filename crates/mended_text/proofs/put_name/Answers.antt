@@ -12,30 +12,30 @@ use Rattle.mended_text.proofs.put_name.Goals as goal
 
 pub front-requires : goal.front-requires
 front-requires c =
-    let index = c in
-    omega (arith, index.index_of-n.ensures, index-within equals index.name_bytes-bytes.result)
+    omega (arith, c.index_of-n.ensures, index-within equals c.name_bytes-bytes.result)
 
 -- what is put first is the name
 
-is_name : (c : goal.After-front) → c.front.result.now ≡ name_text c.args.k
-is_name c =
-    let index = c in
-    let name = index in
-    c.front.ensures ∙ ap (λ (n : ℕ). take n name.name_bytes-bytes.result) index.index_of-n.ensures ∙ name.name_bytes-bytes.ensures
-
 pub put_bytes-end-requires : goal.put_bytes-end-requires
-put_bytes-end-requires c = room_as (sym (is_name c)) (room-first _ c.requires)
+put_bytes-end-requires c =
+    let is_name : c.front.result.now ≡ name_text c.args.k =
+    c.front.ensures ∙ ap (λ (n : ℕ). take n c.name_bytes-bytes.result) c.index_of-n.ensures ∙ c.name_bytes-bytes.ensures
+    in
+    room_as (sym is_name) (room-first _ c.requires)
 
 pub put_bytes-requires : goal.put_bytes-requires
 put_bytes-requires c =
-    let call = c in
-    room-then (put_as (is_name call) call.put_bytes-end.ensures) call.requires
+    let is_name : c.front.result.now ≡ name_text c.args.k =
+    c.front.ensures ∙ ap (λ (n : ℕ). take n c.name_bytes-bytes.result) c.index_of-n.ensures ∙ c.name_bytes-bytes.ensures
+    in
+    room-then (put_as is_name c.put_bytes-end.ensures) c.requires
 
 pub returns : goal.returns
 returns c =
-    let end = c in
-    let call = end in
-    put_then (put_as (is_name call) call.put_bytes-end.ensures) end.put_bytes.ensures
+    let is_name : c.front.result.now ≡ name_text c.args.k =
+    c.front.ensures ∙ ap (λ (n : ℕ). take n c.name_bytes-bytes.result) c.index_of-n.ensures ∙ c.name_bytes-bytes.ensures
+    in
+    put_then (put_as is_name c.put_bytes-end.ensures) c.put_bytes.ensures
 
 pub shape_of-buffer : goal.shape_of-buffer
 shape_of-buffer c = put-length (returns c)

@@ -16,14 +16,11 @@ loop-k-init c = (omega arith, left_as (text-lines _ _ c.requires.0) left-all)
 
 pub put_line-next-requires : goal.put_line-next-requires
 put_line-next-requires c =
-    let loop = c in
-    next-room _ loop.requires.1 (left_as (lines_next _ _ _ c.loop-k-test.true) loop.loop-k.invariant.1)
+    next-room _ c.requires.1 (left_as (lines_next _ _ _ c.loop-k-test.true) c.loop-k.invariant.1)
 
 pub loop-k-preserved : goal.loop-k-preserved
 loop-k-preserved c =
-    let call = c in
-    let test = call in
-    (omega arith, left-next (left_as (lines_next _ _ _ test.loop-k-test.true) test.loop-k.invariant.1) call.put_line-next.ensures)
+    (omega arith, left-next (left_as (lines_next _ _ _ c.loop-k-test.true) c.loop-k.invariant.1) c.put_line-next.ensures)
 
 pub returns : goal.returns
 returns c = left-none (left_as (lines_none _ _ _ c.loop-k-test.false) c.loop-k.invariant.1)

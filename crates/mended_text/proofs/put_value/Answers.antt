@@ -9,39 +9,41 @@ use Rattle.mended_text.proofs.put_value.Goals as goal
 
 -- the value of the line is mended
 
-is-given : (c : goal.After-value_named)
-    → let args = c.args in
-    value_mended args.two (lines_of args.text.now) args.k ≡ mended_value args.k c.value_named.result.now
-is-given c =
-    let test = c in
-    let args = test.args in
-    value-given args.two (lines_of args.text.now) args.k (sym test.has_name.ensures ∙ test.if-has_name.true)
-    ∙ ap (mended_value args.k) (sym c.value_named.ensures)
-
 pub put_mended-requires : goal.put_mended-requires
-put_mended-requires c = room_as (is-given c) c.requires
+put_mended-requires c =
+    let is-given : let args = c.args in value_mended args.two (lines_of args.text.now) args.k ≡ mended_value args.k c.value_named.result.now =
+    let args = c.args in
+    value-given args.two (lines_of args.text.now) args.k (sym c.has_name.ensures ∙ c.if-has_name.true)
+    ∙ ap (mended_value args.k) (sym c.value_named.ensures)
+    in
+    room_as is-given c.requires
 
 pub returns-then-has_name : goal.returns-then-has_name
 returns-then-has_name c =
-    let call = c in
-    put_as (sym (is-given call)) call.put_mended.ensures
+    let is-given : let args = c.args in value_mended args.two (lines_of args.text.now) args.k ≡ mended_value args.k c.value_named.result.now =
+    let args = c.args in
+    value-given args.two (lines_of args.text.now) args.k (sym c.has_name.ensures ∙ c.if-has_name.true)
+    ∙ ap (mended_value args.k) (sym c.value_named.ensures)
+    in
+    put_as (sym is-given) c.put_mended.ensures
 
 -- there is no such line, and the value is gained
 
-is-gained : (c : goal.Else-has_name)
-    → let args = c.args in
-    value_mended args.two (lines_of args.text.now) args.k ≡ gained args.k
-is-gained c =
+pub put_gained-requires : goal.put_gained-requires
+put_gained-requires c =
+    let is-gained : let args = c.args in value_mended args.two (lines_of args.text.now) args.k ≡ gained args.k =
     let args = c.args in
     value-gained args.two (lines_of args.text.now) args.k (sym c.has_name.ensures ∙ c.if-has_name.false)
-
-pub put_gained-requires : goal.put_gained-requires
-put_gained-requires c = room_as (is-gained c) c.requires
+    in
+    room_as is-gained c.requires
 
 pub returns : goal.returns
 returns c =
-    let call = c in
-    put_as (sym (is-gained call)) call.put_gained.ensures
+    let is-gained : let args = c.args in value_mended args.two (lines_of args.text.now) args.k ≡ gained args.k =
+    let args = c.args in
+    value-gained args.two (lines_of args.text.now) args.k (sym c.has_name.ensures ∙ c.if-has_name.false)
+    in
+    put_as (sym is-gained) c.put_gained.ensures
 
 pub shape_of-buffer-then-has_name : goal.shape_of-buffer-then-has_name
 shape_of-buffer-then-has_name c = put-length (returns-then-has_name c)

@@ -11,18 +11,12 @@ returns-then-buffer-lt-ROOM c = rw (lt-ltb _ print_room c.if-buffer-lt-ROOM.true
 
 pub returns-then-m-eq-DONE : goal.returns-then-m-eq-DONE
 returns-then-m-eq-DONE c =
-    let call = c in
-    print-done _ _ call.if-buffer-lt-ROOM.false call.mend-m.ensures c.if-m-eq-DONE.true
+    print-done _ _ c.if-buffer-lt-ROOM.false c.mend-m.ensures c.if-m-eq-DONE.true
 
 pub put_line-requires : goal.put_line-requires
 put_line-requires c =
-    let test = c in
-    let call = test in
-    refused-room _ _ call.if-buffer-lt-ROOM.false call.mend-m.ensures test.if-m-eq-DONE.false
+    refused-room _ _ c.if-buffer-lt-ROOM.false c.mend-m.ensures c.if-m-eq-DONE.false
 
 pub returns : goal.returns
 returns c =
-    let end = c in
-    let test = end in
-    let call = test in
-    refused-printed _ _ call.if-buffer-lt-ROOM.false call.mend-m.ensures test.if-m-eq-DONE.false end.put_line.ensures
+    refused-printed _ _ c.if-buffer-lt-ROOM.false c.mend-m.ensures c.if-m-eq-DONE.false c.put_line.ensures

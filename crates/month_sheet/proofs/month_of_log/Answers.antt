@@ -9,7 +9,6 @@ use Rattle.month_sheet.proofs.month_of_log.Goals as goal
 pub returns : goal.returns
 unfolding whole_log
 returns c =
-    let start = c in
-    let e : fed_to c.feed-m.result c.feed-m.new.figures ≡ whole_log start.args.log.now =
-    c.feed-m.ensures ∙ (λ i. fed (fed_to (c.start.ensures i) (zeros-are i)) start.args.log.now) in
-    (c.print.ensures.0 ∙ ap (λ (f : Fed). printed_length f start.args.buffer.now) e, c.print.ensures.1 ∙ ap (λ (f : Fed). printed_buffer f start.args.buffer.now) e)
+    let e : fed_to c.feed-m.result c.feed-m.new.figures ≡ whole_log c.args.log.now =
+    c.feed-m.ensures ∙ (λ i. fed (fed_to (c.start.ensures i) (zeros-are i)) c.args.log.now) in
+    (c.print.ensures.0 ∙ ap (λ (f : Fed). printed_length f c.args.buffer.now) e, c.print.ensures.1 ∙ ap (λ (f : Fed). printed_buffer f c.args.buffer.now) e)

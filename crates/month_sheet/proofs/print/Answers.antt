@@ -27,10 +27,8 @@ put_pair-requires c = record { fits = omega (arith, refused-short c.wrong_line-l
 pub returns : goal.returns
 unfolding wrong_line_text
 returns c =
-    let start = c in
-    let read = c in
-    let f = fed_to start.args.m start.args.figures.now in
-    let line = read.wrong_line-line.ensures in
+    let f = fed_to c.args.m c.args.figures.now in
+    let line = c.wrong_line-line.ensures in
     let put = c.put_pair.ensures in
-    printed f _ read.if-buffer-lt-ROOM.false (omega (arith, put.ends, refused-short read.wrong_line-line.result (search rules)))
+    printed f _ c.if-buffer-lt-ROOM.false (omega (arith, put.ends, refused-short c.wrong_line-line.result (search rules)))
     (put_as (ap wrong_line_text line ∙ sym (printed-refused f (λ e. c.if-line-eq0.false (line ∙ e)))) put)

@@ -17,29 +17,25 @@ loop-code-init c = (omega arith, omega arith, omega arith, left-all)
 pub put_pair-next-requires : goal.put_pair-next-requires
 unfolding count_text
 put_pair-next-requires c =
-    let loop = c in
-    let size = loop.loop-code.invariant.3.size in
-    record { fits = omega (arith, count-short loop.loop-code.code c.figure-count.result (search rules) (search rules)) }
+    let size = c.loop-code.invariant.3.size in
+    record { fits = omega (arith, count-short c.loop-code.code c.figure-count.result (search rules) (search rules)) }
 
 pub loop-code-preserved : goal.loop-code-preserved
 unfolding count_text
 loop-code-preserved c =
-    let call = c in
-    let loop = c in
     let figures = c.args.figures.now in
-    let put = call.put_pair-next.ensures in (
+    let put = c.put_pair-next.ensures in (
       omega arith,
       omega arith,
-      omega (arith, put.ends, count-short loop.loop-code.code c.figure-count.result (search rules) (search rules)),
-      left-next (left_as (texts-next (λ code. count_text code (get_or figures (195 + code) 0)) loop.loop-code.code 28 (search rules)) loop.loop-code.invariant.3)
-          (put_as (λ k. count_text loop.loop-code.code (c.figure-count.ensures k)) put),
+      omega (arith, put.ends, count-short c.loop-code.code c.figure-count.result (search rules) (search rules)),
+      left-next (left_as (texts-next (λ code. count_text code (get_or figures (195 + code) 0)) c.loop-code.code 28 (search rules)) c.loop-code.invariant.3)
+          (put_as (λ k. count_text c.loop-code.code (c.figure-count.ensures k)) put),
     )
 
 pub returns : goal.returns
 returns c =
-    let loop = c in
     let figures = c.args.figures.now in
-    (omega arith, left-none (left_as (texts-none (λ code. count_text code (get_or figures (195 + code) 0)) loop.loop-code.code 28 (search rules)) loop.loop-code.invariant.3))
+    (omega arith, left-none (left_as (texts-none (λ code. count_text code (get_or figures (195 + code) 0)) c.loop-code.code 28 (search rules)) c.loop-code.invariant.3))
 
 pub shape_of-buffer : goal.shape_of-buffer
 shape_of-buffer c = put-length (returns c).1

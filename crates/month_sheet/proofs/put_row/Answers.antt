@@ -14,43 +14,81 @@ use Rattle.month_sheet.specs.Sheet.{share_text}
 use borrow.Author.Rules.{rules}
 use Rattle.month_sheet.proofs.put_row.Goals as goal
 
-short : (c : goal.Start) → length (row_text (c.args.row / 2 + 1) (c.args.row % 2 + 1) c.args.calls c.args.bits c.args.blocks c.args.all) ≤ longest_row
-short c = row-short _ _ _ _ (omega arith) (omega arith) (search rules) (search rules) _ _ (search rules) (search rules)
-
-whole : (c : goal.Start) → Room c.args.buffer.now c.args.at (row_text (c.args.row / 2 + 1) (c.args.row % 2 + 1) c.args.calls c.args.bits c.args.blocks c.args.all)
-whole c = record { fits = omega (arith, short c) }
-
 pub put_item-direction-requires : goal.put_item-direction-requires
 unfolding row_text
-put_item-direction-requires c = next-room _ (whole c) left-all
+put_item-direction-requires c =
+    let short : length (row_text (c.args.row / 2 + 1) (c.args.row % 2 + 1) c.args.calls c.args.bits c.args.blocks c.args.all) ≤ longest_row =
+    row-short _ _ _ _ (omega arith) (omega arith) (search rules) (search rules) _ _ (search rules) (search rules)
+    in
+    let whole : Room c.args.buffer.now c.args.at (row_text (c.args.row / 2 + 1) (c.args.row % 2 + 1) c.args.calls c.args.bits c.args.blocks c.args.all) =
+    record { fits = omega (arith, short) }
+    in
+    next-room _ whole left-all
 
 pub put_item-accepted-requires : goal.put_item-accepted-requires
 unfolding row_text
-put_item-accepted-requires c = next-room _ (whole c) (left-next left-all c.put_item-direction.ensures)
+put_item-accepted-requires c =
+    let short : length (row_text (c.args.row / 2 + 1) (c.args.row % 2 + 1) c.args.calls c.args.bits c.args.blocks c.args.all) ≤ longest_row =
+    row-short _ _ _ _ (omega arith) (omega arith) (search rules) (search rules) _ _ (search rules) (search rules)
+    in
+    let whole : Room c.args.buffer.now c.args.at (row_text (c.args.row / 2 + 1) (c.args.row % 2 + 1) c.args.calls c.args.bits c.args.blocks c.args.all) =
+    record { fits = omega (arith, short) }
+    in
+    next-room _ whole (left-next left-all c.put_item-direction.ensures)
 
 pub put_item-ciphered-requires : goal.put_item-ciphered-requires
 unfolding row_text
-put_item-ciphered-requires c = next-room _ (whole c) (left-next (left-next left-all c.put_item-direction.ensures) c.put_item-accepted.ensures)
+put_item-ciphered-requires c =
+    let short : length (row_text (c.args.row / 2 + 1) (c.args.row % 2 + 1) c.args.calls c.args.bits c.args.blocks c.args.all) ≤ longest_row =
+    row-short _ _ _ _ (omega arith) (omega arith) (search rules) (search rules) _ _ (search rules) (search rules)
+    in
+    let whole : Room c.args.buffer.now c.args.at (row_text (c.args.row / 2 + 1) (c.args.row % 2 + 1) c.args.calls c.args.bits c.args.blocks c.args.all) =
+    record { fits = omega (arith, short) }
+    in
+    next-room _ whole (left-next (left-next left-all c.put_item-direction.ensures) c.put_item-accepted.ensures)
 
 pub put_item-used-requires : goal.put_item-used-requires
 unfolding row_text
-put_item-used-requires c = next-room _ (whole c) (left-next (left-next (left-next left-all c.put_item-direction.ensures) c.put_item-accepted.ensures) c.put_item-ciphered.ensures)
+put_item-used-requires c =
+    let short : length (row_text (c.args.row / 2 + 1) (c.args.row % 2 + 1) c.args.calls c.args.bits c.args.blocks c.args.all) ≤ longest_row =
+    row-short _ _ _ _ (omega arith) (omega arith) (search rules) (search rules) _ _ (search rules) (search rules)
+    in
+    let whole : Room c.args.buffer.now c.args.at (row_text (c.args.row / 2 + 1) (c.args.row % 2 + 1) c.args.calls c.args.bits c.args.blocks c.args.all) =
+    record { fits = omega (arith, short) }
+    in
+    next-room _ whole (left-next (left-next (left-next left-all c.put_item-direction.ensures) c.put_item-accepted.ensures) c.put_item-ciphered.ensures)
 
 pub put_item-share-requires : goal.put_item-share-requires
 unfolding row_text
-put_item-share-requires c = next-room _ (whole c) (left-next (left-next (left-next (left-next left-all c.put_item-direction.ensures) c.put_item-accepted.ensures) c.put_item-ciphered.ensures) c.put_item-used.ensures)
+put_item-share-requires c =
+    let short : length (row_text (c.args.row / 2 + 1) (c.args.row % 2 + 1) c.args.calls c.args.bits c.args.blocks c.args.all) ≤ longest_row =
+    row-short _ _ _ _ (omega arith) (omega arith) (search rules) (search rules) _ _ (search rules) (search rules)
+    in
+    let whole : Room c.args.buffer.now c.args.at (row_text (c.args.row / 2 + 1) (c.args.row % 2 + 1) c.args.calls c.args.bits c.args.blocks c.args.all) =
+    record { fits = omega (arith, short) }
+    in
+    next-room _ whole (left-next (left-next (left-next (left-next left-all c.put_item-direction.ensures) c.put_item-accepted.ensures) c.put_item-ciphered.ensures) c.put_item-used.ensures)
 
 pub put_pair-requires : goal.put_pair-requires
 unfolding row_text share_text
 put_pair-requires c =
+    let short : length (row_text (c.args.row / 2 + 1) (c.args.row % 2 + 1) c.args.calls c.args.bits c.args.blocks c.args.all) ≤ longest_row =
+    row-short _ _ _ _ (omega arith) (omega arith) (search rules) (search rules) _ _ (search rules) (search rules)
+    in
+    let whole : Room c.args.buffer.now c.args.at (row_text (c.args.row / 2 + 1) (c.args.row % 2 + 1) c.args.calls c.args.bits c.args.blocks c.args.all) =
+    record { fits = omega (arith, short) }
+    in
     room_as (sym (ap (λ s. share_text s.top s.bottom) c.share_of-part.ensures))
-    (left-room (whole c) (left-next (left-next (left-next (left-next (left-next left-all c.put_item-direction.ensures) c.put_item-accepted.ensures) c.put_item-ciphered.ensures) c.put_item-used.ensures) c.put_item-share.ensures))
+    (left-room whole (left-next (left-next (left-next (left-next (left-next left-all c.put_item-direction.ensures) c.put_item-accepted.ensures) c.put_item-ciphered.ensures) c.put_item-used.ensures) c.put_item-share.ensures))
 
 pub returns : goal.returns
 unfolding row_text share_text
 returns c =
+    let short : length (row_text (c.args.row / 2 + 1) (c.args.row % 2 + 1) c.args.calls c.args.bits c.args.blocks c.args.all) ≤ longest_row =
+    row-short _ _ _ _ (omega arith) (omega arith) (search rules) (search rules) _ _ (search rules) (search rules)
+    in
     let put = left-last (left-next (left-next (left-next (left-next (left-next left-all c.put_item-direction.ensures) c.put_item-accepted.ensures) c.put_item-ciphered.ensures) c.put_item-used.ensures) c.put_item-share.ensures) (put_as (ap (λ s. share_text s.top s.bottom) c.share_of-part.ensures) c.put_pair.ensures) in
-    (omega (arith, put.ends, short c), put)
+    (omega (arith, put.ends, short), put)
 
 pub shape_of-buffer : goal.shape_of-buffer
 shape_of-buffer c = put-length (returns c).1

@@ -15,20 +15,17 @@ loop-i-init c = (omega arith, omega arith, left-all)
 
 pub put_row-next-requires : goal.put_row-next-requires
 put_row-next-requires c =
-    let loop = c in
-    let size = loop.loop-i.invariant.2.size in
+    let size = c.loop-i.invariant.2.size in
     (omega arith, omega arith)
 
 pub loop-i-preserved : goal.loop-i-preserved
 loop-i-preserved c =
-    let call = c in
-    let loop = c in
     let figures = c.args.figures.now in
-    let i = loop.loop-i.i in
-    let put = call.put_row-next.ensures in (
+    let i = c.loop-i.i in
+    let put = c.put_row-next.ensures in (
       omega arith,
       omega (arith, put.0),
-      left-next (left_as (texts-next (row_in (sums_in figures)) i 64 (search rules)) loop.loop-i.invariant.2)
+      left-next (left_as (texts-next (row_in (sums_in figures)) i 64 (search rules)) c.loop-i.invariant.2)
           (put_as
           (λ k. row_text (i / 2 + 1) (i % 2 + 1) (c.figure-calls.ensures k) (c.figure-bits.ensures k) (c.figure-blocks.ensures k) (c.figure-all.ensures k))
           put.1),
@@ -36,9 +33,8 @@ loop-i-preserved c =
 
 pub returns : goal.returns
 returns c =
-    let loop = c in
     let figures = c.args.figures.now in
-    (omega arith, left-none (left_as (texts-none (row_in (sums_in figures)) loop.loop-i.i 64 (search rules)) loop.loop-i.invariant.2))
+    (omega arith, left-none (left_as (texts-none (row_in (sums_in figures)) c.loop-i.i 64 (search rules)) c.loop-i.invariant.2))
 
 pub shape_of-buffer : goal.shape_of-buffer
 shape_of-buffer c = put-length (returns c).1

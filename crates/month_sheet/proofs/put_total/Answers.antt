@@ -10,29 +10,47 @@ use Rattle.month_sheet.proofs.Lengths.{total-short}
 use borrow.Author.Rules.{rules}
 use Rattle.month_sheet.proofs.put_total.Goals as goal
 
-short : (c : goal.Start) → length (total_text c.args.lines c.args.calls c.args.bits c.args.blocks) ≤ longest_total
-short c = total-short _ _ _ _ (search rules) (search rules) (search rules) (search rules)
-
-whole : (c : goal.Start) → Room c.args.buffer.now c.args.at (total_text c.args.lines c.args.calls c.args.bits c.args.blocks)
-whole c = record { fits = omega (arith, short c) }
-
 pub put_item-accepted-requires : goal.put_item-accepted-requires
 unfolding total_text
-put_item-accepted-requires c = next-room _ (whole c) left-all
+put_item-accepted-requires c =
+    let short : length (total_text c.args.lines c.args.calls c.args.bits c.args.blocks) ≤ longest_total =
+    total-short _ _ _ _ (search rules) (search rules) (search rules) (search rules)
+    in
+    let whole : Room c.args.buffer.now c.args.at (total_text c.args.lines c.args.calls c.args.bits c.args.blocks) =
+    record { fits = omega (arith, short) }
+    in
+    next-room _ whole left-all
 
 pub put_item-ciphered-requires : goal.put_item-ciphered-requires
 unfolding total_text
-put_item-ciphered-requires c = next-room _ (whole c) (left-next left-all c.put_item-accepted.ensures)
+put_item-ciphered-requires c =
+    let short : length (total_text c.args.lines c.args.calls c.args.bits c.args.blocks) ≤ longest_total =
+    total-short _ _ _ _ (search rules) (search rules) (search rules) (search rules)
+    in
+    let whole : Room c.args.buffer.now c.args.at (total_text c.args.lines c.args.calls c.args.bits c.args.blocks) =
+    record { fits = omega (arith, short) }
+    in
+    next-room _ whole (left-next left-all c.put_item-accepted.ensures)
 
 pub put_pair-requires : goal.put_pair-requires
 unfolding total_text
-put_pair-requires c = left-room (whole c) (left-next (left-next left-all c.put_item-accepted.ensures) c.put_item-ciphered.ensures)
+put_pair-requires c =
+    let short : length (total_text c.args.lines c.args.calls c.args.bits c.args.blocks) ≤ longest_total =
+    total-short _ _ _ _ (search rules) (search rules) (search rules) (search rules)
+    in
+    let whole : Room c.args.buffer.now c.args.at (total_text c.args.lines c.args.calls c.args.bits c.args.blocks) =
+    record { fits = omega (arith, short) }
+    in
+    left-room whole (left-next (left-next left-all c.put_item-accepted.ensures) c.put_item-ciphered.ensures)
 
 pub returns : goal.returns
 unfolding total_text
 returns c =
+    let short : length (total_text c.args.lines c.args.calls c.args.bits c.args.blocks) ≤ longest_total =
+    total-short _ _ _ _ (search rules) (search rules) (search rules) (search rules)
+    in
     let put = left-last (left-next (left-next left-all c.put_item-accepted.ensures) c.put_item-ciphered.ensures) c.put_pair.ensures in
-    (omega (arith, put.ends, short c), put)
+    (omega (arith, put.ends, short), put)
 
 pub shape_of-buffer : goal.shape_of-buffer
 shape_of-buffer c = put-length (returns c).1

@@ -7,6 +7,5 @@ use Rattle.plain_rijndael.proofs.cipher.Goals as goal
 pub returns : goal.returns
 unfolding cipher
 returns c =
-    let made = c in
     c.to_block.ensures
-    ∙ (λ i. to_block ((c.encrypt.ensures ∙ (λ j. encrypted (made.key_expansion.ensures j) (made.to_state.ensures j))) i))
+    ∙ (λ i. to_block ((c.encrypt.ensures ∙ (λ j. encrypted (c.key_expansion.ensures j) (c.to_state.ensures j))) i))

@@ -11,11 +11,10 @@ use Rattle.plain_schedule.proofs.carried.Goals as goal
 pub returns-then-i-eq0 : goal.returns-then-i-eq0
 unfolding carried
 returns-then-i-eq0 c =
-    let made = c in
-    rw (eq-eqb _ 0 made.if-i-eq0.true)
+    rw (eq-eqb _ 0 c.if-i-eq0.true)
     (c.sum.ensures
     ∙ (λ i. bit_xor
-    ((made.sub_byte.ensures ∙ ap sub_byte made.rot_byte.ensures) i)
+    ((c.sub_byte.ensures ∙ ap sub_byte c.rot_byte.ensures) i)
     ((first_alone _ ∙ ap (λ (n : ℕ). n * 16777216) c.round_constant.ensures) i)))
 
 pub returns : goal.returns

@@ -17,12 +17,11 @@ loop-i-init c = (search rules, (refl, λ k h. absurd (omega arith)))
 
 pub loop-i-preserved : goal.loop-i-preserved
 loop-i-preserved c =
-    let at = c in
-    let key = at.args.key in
-    let w = at.loop-i.w in
-    let i = at.loop-i.i in
-    let long : length w ≡ 120 = at.loop-i.invariant.1.0 in
-    let g = at.loop-i.invariant.1.1 in
+    let key = c.args.key in
+    let w = c.loop-i.w in
+    let i = c.loop-i.i in
+    let long : length w ≡ 120 = c.loop-i.invariant.1.0 in
+    let g = c.loop-i.invariant.1.1 in
     let l : i < length w = omega (arith, c.loop-i-test.true) in
     let more : (v : List ℕ) → c.if-i-lt6.w ≡ set w i v → word_of v ≡ key_word key i → (length c.if-i-lt6.w ≡ 120) × Expanded key c.if-i-lt6.w (i + 1) =
     λ v e h. rw e (length-set w i v ∙ long, expanded-more key w i v l g h) in (

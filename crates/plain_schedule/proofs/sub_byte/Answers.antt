@@ -9,8 +9,6 @@ use Rattle.plain_schedule.proofs.sub_byte.Goals as goal
 pub returns : goal.returns
 unfolding word_of
 returns c =
-    let second = c in
-    let start = second in
-    let small = array-bytes start.args.x start.well_formed.0 in
-    (λ i. join (second.s_box.ensures i) (second.s_box-2.ensures i) (c.s_box-3.ensures i) (c.s_box-4.ensures i))
+    let small = array-bytes c.args.x c.well_formed.0 in
+    (λ i. join (c.s_box.ensures i) (c.s_box-2.ensures i) (c.s_box-3.ensures i) (c.s_box-4.ensures i))
     ∙ sub-join _ _ _ _ (small 1) (small 2) (small 3)

@@ -12,16 +12,25 @@ pub returns-then-not-is_digit : goal.returns-then-not-is_digit
 unfolding may_begin
 returns-then-not-is_digit c = rw (sym c.is_digit.ensures ∙ c.if-not-is_digit.true)
 
-digit : (c : goal.Else-not-is_digit) → is_digit c.args.b ≡ true
-digit c = sym c.is_digit.ensures ∙ c.if-not-is_digit.false
-
 pub overflow_sub-digit : goal.overflow_sub-digit
-overflow_sub-digit c = omega (arith, between-low 48 c.args.b 57 (digit c))
+overflow_sub-digit c =
+    let digit : is_digit c.args.b ≡ true =
+    sym c.is_digit.ensures ∙ c.if-not-is_digit.false
+    in
+    omega (arith, between-low 48 c.args.b 57 digit)
 
 pub returns-then-low-digit : goal.returns-then-low-digit
 unfolding may_begin
-returns-then-low-digit c = rw (digit c, le-leb _ _ c.if-low-digit.true)
+returns-then-low-digit c =
+    let digit : is_digit c.args.b ≡ true =
+    sym c.is_digit.ensures ∙ c.if-not-is_digit.false
+    in
+    rw (digit, le-leb _ _ c.if-low-digit.true)
 
 pub returns-else-low-digit : goal.returns-else-low-digit
 unfolding may_begin
-returns-else-low-digit c = rw (digit c, lt-leb _ _ c.if-low-digit.false)
+returns-else-low-digit c =
+    let digit : is_digit c.args.b ≡ true =
+    sym c.is_digit.ensures ∙ c.if-not-is_digit.false
+    in
+    rw (digit, lt-leb _ _ c.if-low-digit.false)

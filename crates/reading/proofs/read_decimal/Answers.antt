@@ -20,11 +20,9 @@ returns-then-s-at c =
 pub returns-then-not-may_begin : goal.returns-then-not-may_begin
 unfolding decimal
 returns-then-not-may_begin c =
-    let begin = c in
-    let room = begin in
     c.wrong_at-then-not-may_begin.ensures
-    ∙ sym (ap answer (on-good _ _ _ room.if-not-before.false
-    ∙ step-no _ _ _ _ room.if-s-at.false (sym begin.may_begin.ensures ∙ c.if-not-may_begin.true)))
+    ∙ sym (ap answer (on-good _ _ _ c.if-not-before.false
+    ∙ step-no _ _ _ _ c.if-s-at.false (sym c.may_begin.ensures ∙ c.if-not-may_begin.true)))
 
 pub overflow_sub-first : goal.overflow_sub-first
 overflow_sub-first c = let k = begin-is _ _ _ (sym c.may_begin.ensures ∙ c.if-not-may_begin.false) in omega arith
@@ -36,8 +34,6 @@ overflow_cast-first c =
 pub returns : goal.returns
 unfolding decimal
 returns c =
-    let begin = c in
-    let room = begin in
     c.read_after.ensures
-    ∙ sym (ap answer (on-good _ _ _ room.if-not-before.false
-    ∙ step-yes _ _ _ _ room.if-s-at.false (sym begin.may_begin.ensures ∙ c.if-not-may_begin.false)))
+    ∙ sym (ap answer (on-good _ _ _ c.if-not-before.false
+    ∙ step-yes _ _ _ _ c.if-s-at.false (sym c.may_begin.ensures ∙ c.if-not-may_begin.false)))

@@ -14,30 +14,24 @@ returns-then-not-before c = c.wrong_at.ensures ∙ sym (ap answer (on-wrong _ _ 
 
 pub returns-then-s-at : goal.returns-then-s-at
 returns-then-s-at c =
-    let loop = c in
     c.wrong_at-then-s-at.ensures
-    ∙ sym (ap answer (on-good _ _ _ loop.if-not-before.false
-    ∙ loop.loop-i.invariant.1 ∙ literal-end _ _ _ _ c.loop-i-test.true c.if-s-at.true))
+    ∙ sym (ap answer (on-good _ _ _ c.if-not-before.false
+    ∙ c.loop-i.invariant.1 ∙ literal-end _ _ _ _ c.loop-i-test.true c.if-s-at.true))
 
 pub returns-then-s-at-2 : goal.returns-then-s-at-2
 returns-then-s-at-2 c =
-    let room = c in
-    let loop = room in
     c.wrong_at-then-s-at-2.ensures
-    ∙ sym (ap answer (on-good _ _ _ loop.if-not-before.false
-    ∙ loop.loop-i.invariant.1 ∙ literal-no _ _ _ _ room.loop-i-test.true room.if-s-at.false c.if-s-at-2.true))
+    ∙ sym (ap answer (on-good _ _ _ c.if-not-before.false
+    ∙ c.loop-i.invariant.1 ∙ literal-no _ _ _ _ c.loop-i-test.true c.if-s-at.false c.if-s-at-2.true))
 
 pub loop-i-preserved : goal.loop-i-preserved
 loop-i-preserved c =
-    let room = c in
-    let loop = room in
-    (omega arith, loop.loop-i.invariant.1 ∙ literal-yes _ _ _ _ room.loop-i-test.true room.if-s-at.false c.if-s-at-2.false)
+    (omega arith, c.loop-i.invariant.1 ∙ literal-yes _ _ _ _ c.loop-i-test.true c.if-s-at.false c.if-s-at-2.false)
 
 pub returns : goal.returns
 returns c =
-    let loop = c in
     c.good_to.ensures
-    ∙ sym (ap answer (on-good _ _ _ loop.if-not-before.false ∙ loop.loop-i.invariant.1 ∙ literal-all _ _ _ _ c.loop-i-test.false))
+    ∙ sym (ap answer (on-good _ _ _ c.if-not-before.false ∙ c.loop-i.invariant.1 ∙ literal-all _ _ _ _ c.loop-i-test.false))
 
 pub loop-i-init : goal.loop-i-init
 loop-i-init c = (omega arith, refl)

@@ -8,24 +8,18 @@ use Rattle.reading.proofs.Steps.{on_then}
 use Rattle.reading.proofs.Choices.{furthest}
 use Rattle.reading.proofs.read_one_of.Goals as goal
 
-first-size : (s : goal.Start) → length s.args.a ≡ 4
-first-size s = search rules
-
-second-size : (s : goal.Start) → length s.args.b ≡ 4
-second-size s = search rules
-
-third-size : (s : goal.Start) → length s.args.c ≡ 4
-third-size s = search rules
-
 pub returns : goal.returns
 unfolding one_of
 returns c =
-    let chosen = c in
-    let last = chosen in
-    let third = last in
-    let second = third in
-    let first = second in
-    let start = first in
-    let rest = last.further.ensures ∙ (λ i. further (second.read_word-two.ensures i) (third.read_word-three.ensures i)) in
-    let one = chosen.further-word.ensures ∙ (λ i. further (first.read_word-one.ensures i) (rest i)) in
-    c.read_word.ensures ∙ sym (ap answer (on_then _ _ _ _ (one ∙ sym (furthest _ _ _ _ (second-size start ∙ sym (first-size start)) (third-size start ∙ sym (first-size start)) _ _))))
+    let first-size : length c.args.a ≡ 4 =
+    search rules
+    in
+    let second-size : length c.args.b ≡ 4 =
+    search rules
+    in
+    let third-size : length c.args.c ≡ 4 =
+    search rules
+    in
+    let rest = c.further.ensures ∙ (λ i. further (c.read_word-two.ensures i) (c.read_word-three.ensures i)) in
+    let one = c.further-word.ensures ∙ (λ i. further (c.read_word-one.ensures i) (rest i)) in
+    c.read_word.ensures ∙ sym (ap answer (on_then _ _ _ _ (one ∙ sym (furthest _ _ _ _ (second-size ∙ sym first-size) (third-size ∙ sym first-size) _ _))))

@@ -16,5 +16,4 @@ returns-then-not-two c = rw (not-true c.args.two c.if-not-two.true) c.good_to.en
 pub returns : goal.returns
 unfolding opened
 returns c =
-    let good = c in
-    rw (not-false good.args.two good.if-not-two.false) (c.read_literal.ensures ∙ ap (λ (b : Reading). answer (onward b (literal (ascii "form=2\n")) good.args.text.now)) good.good_to-2.ensures)
+    rw (not-false c.args.two c.if-not-two.false) (c.read_literal.ensures ∙ ap (λ (b : Reading). answer (onward b (literal (ascii "form=2\n")) c.args.text.now)) c.good_to-2.ensures)

@@ -21,27 +21,22 @@ overflow_cast-key c =
     record { fits = omega (arith, on_value (λ v. v < 256) _ byte _ c.read_byte-b.ensures (omega arith) (λ v w h. (byte-means.only v w h).0)) }
 
 pub loop-i-preserved : goal.loop-i-preserved
-loop-i-preserved c =
-    let test = c in (
-      omega arith,
-      simp length-set test.loop-i.invariant.1,
-      test.loop-i.invariant.2 ∙ key_more _ _ _ _ test.loop-i.invariant.1 test.loop-i-test.true c.read_byte-b.ensures,
-    )
+loop-i-preserved c = (
+  omega arith,
+  simp length-set c.loop-i.invariant.1,
+  c.loop-i.invariant.2 ∙ key_more _ _ _ _ c.loop-i.invariant.1 c.loop-i-test.true c.read_byte-b.ensures,
+)
 
 pub returns-then-not-end : goal.returns-then-not-end
 returns-then-not-end c =
-    let end = c in
-    let test = end in
     c.no_key_at.ensures
-    ∙ sym (ap key_answer (test.loop-i.invariant.2 ∙ key-all _ _ _ _ test.loop-i.invariant.1 test.loop-i-test.false
-    ∙ on_then _ _ _ _ end.read_literal-end.ensures ∙ on-wrong _ _ _ c.if-not-end.true))
+    ∙ sym (ap key_answer (c.loop-i.invariant.2 ∙ key-all _ _ _ _ c.loop-i.invariant.1 c.loop-i-test.false
+    ∙ on_then _ _ _ _ c.read_literal-end.ensures ∙ on-wrong _ _ _ c.if-not-end.true))
 
 pub returns : goal.returns
 returns c =
-    let end = c in
-    let test = end in
-    sym (ap key_answer (test.loop-i.invariant.2 ∙ key-all _ _ _ _ test.loop-i.invariant.1 test.loop-i-test.false
-    ∙ on_then _ _ _ _ end.read_literal-end.ensures ∙ on-good _ _ _ c.if-not-end.false ∙ step-done _ _ _))
+    sym (ap key_answer (c.loop-i.invariant.2 ∙ key-all _ _ _ _ c.loop-i.invariant.1 c.loop-i-test.false
+    ∙ on_then _ _ _ _ c.read_literal-end.ensures ∙ on-good _ _ _ c.if-not-end.false ∙ step-done _ _ _))
 
 -- UNPLACED invariant invariant-loop: ['s', 'key₀', 'last₀', 'i₀', 'b₀', 'key', 'last', 'i'] for ['l.s', 'l.initial.key', 'l.initial.last', 'l.initial.i', 'l.key', 'l.last', 'l.i']
 -- UNPLACED decreases decreases-loop: ['s', 'key₀', 'last₀', 'i₀', 'b₀', 'key', 'last', 'i'] for ['l.s', 'l.initial.key', 'l.initial.last', 'l.initial.i', 'l.key', 'l.last', 'l.i']

@@ -17,11 +17,8 @@ use Rattle.record_reader.proofs.read_record.Goals as goal
 
 -- the places of the lines, from that of the key
 
-abbrev mnc-line : goal.After-read_key-key → goal.After-read_code-mnc
-mnc-line c = c
-
 abbrev mcc-line : goal.After-read_key-key → goal.After-read_code-mcc
-mcc-line c = (mnc-line c)
+mcc-line c = c
 
 abbrev place-line : goal.After-read_key-key → goal.After-read_line-place
 place-line c = (mcc-line c)
@@ -67,14 +64,14 @@ given c =
             side = (side-line c).read-line3.result.value;
             place = (place-line c).read-line4.result.value;
             mcc = (mcc-line c).read-code.result.value;
-            mnc = (mnc-line c).read-code2.result.value;
+            mnc = c.read_code-mnc.result.value;
           };
       key = c.read_key-key.result.key;
     }
 
-whole : (c : goal.After-read_key-key) → read_at (record_form (starts_form (text c))) (text c) 0
-    ≡ pick c.read_key-key.result.good (found (given c) c.read_key-key.result.place) (wrong c.read_key-key.result.place)
-whole c =
+pub refused_at-requires : goal.refused_at-requires
+refused_at-requires c =
+    let whole : read_at (record_form (starts_form (text c))) (text c) 0 ≡ pick c.read_key-key.result.good (found (given c) c.read_key-key.result.place) (wrong c.read_key-key.result.place) =
     ap (λ (t : Bool). read_at (record_form t) (text c) 0) (sym (start c).starts-form.ensures)
     ∙ lines-read (two c) (text c)
     (form-line c).read-form.ensures
@@ -87,51 +84,257 @@ whole c =
     (side-line c).read-line3.ensures
     (place-line c).read-line4.ensures
     (mcc-line c).read-code.ensures
-    (mnc-line c).read-code2.ensures
+    c.read_code-mnc.ensures
     c.read_literal-3.ensures
     c.read_key-key.ensures
-
-is-wrong : (c : goal.After-read_key-key) → not c.read_key-key.result.good ≡ true → read_at (record_form (starts_form (text c))) (text c) 0 ≡ wrong c.read_key-key.result.place
-is-wrong c h = whole c ∙ pick-taken c.read_key-key.result.good _ _ h
-
-is_found : (c : goal.After-read_key-key) → not c.read_key-key.result.good ≡ false
-    → read_at (record_form (starts_form (text c))) (text c) 0 ≡ found (given c) c.read_key-key.result.place
-is_found c h = whole c ∙ pick-left c.read_key-key.result.good _ _ h
-
-is-small : (c : goal.After-read_key-key) → not c.read_key-key.result.good ≡ false → Small (given c).fields
-is-small c h =
-    let r = spelt (record_form (starts_form (text c))) (text c) 0 (given c) _ (is_found c h) in
-    small ((record-means (starts_form (text c))).only (given c) r.text r.spells).0
-
-pub refused_at-requires : goal.refused_at-requires
-refused_at-requires c = stop-within (stops (record_form _) (record-means _).live _ 0 _ (is-wrong c c.if-not-key.true)) zero-le
+    in
+    let is-wrong : not c.read_key-key.result.good ≡ true → read_at (record_form (starts_form (text c))) (text c) 0 ≡ wrong c.read_key-key.result.place =
+    λ h. whole ∙ pick-taken c.read_key-key.result.good _ _ h
+    in
+    stop-within (stops (record_form _) (record-means _).live _ 0 _ (is-wrong c.if-not-key.true)) zero-le
 
 pub returns-then-not-key : goal.returns-then-not-key
 unfolding record_read
 returns-then-not-key c =
-    c.refused_at.ensures ∙ sym (ap (read_answer _) (is-wrong c c.if-not-key.true))
+    let whole : read_at (record_form (starts_form (text c))) (text c) 0 ≡ pick c.read_key-key.result.good (found (given c) c.read_key-key.result.place) (wrong c.read_key-key.result.place) =
+    ap (λ (t : Bool). read_at (record_form t) (text c) 0) (sym (start c).starts-form.ensures)
+    ∙ lines-read (two c) (text c)
+    (form-line c).read-form.ensures
+    (number-line c).read-line.ensures
+    (version-line c).read-line2.ensures
+    (algorithm-line c).read-literal.ensures
+    (algorithm-line c).read-algorithm.ensures
+    (use-line c).read-literal2.ensures
+    (use-line c).read-use.ensures
+    (side-line c).read-line3.ensures
+    (place-line c).read-line4.ensures
+    (mcc-line c).read-code.ensures
+    c.read_code-mnc.ensures
+    c.read_literal-3.ensures
+    c.read_key-key.ensures
+    in
+    let is-wrong : not c.read_key-key.result.good ≡ true → read_at (record_form (starts_form (text c))) (text c) 0 ≡ wrong c.read_key-key.result.place =
+    λ h. whole ∙ pick-taken c.read_key-key.result.good _ _ h
+    in
+    c.refused_at.ensures ∙ sym (ap (read_answer _) (is-wrong c.if-not-key.true))
 
 pub overflow_cast-result : goal.overflow_cast-result
-overflow_cast-result c = record { fits = omega (arith, (is-small c c.if-not-key.false).version) }
+overflow_cast-result c =
+    let whole : read_at (record_form (starts_form (text c))) (text c) 0 ≡ pick c.read_key-key.result.good (found (given c) c.read_key-key.result.place) (wrong c.read_key-key.result.place) =
+    ap (λ (t : Bool). read_at (record_form t) (text c) 0) (sym (start c).starts-form.ensures)
+    ∙ lines-read (two c) (text c)
+    (form-line c).read-form.ensures
+    (number-line c).read-line.ensures
+    (version-line c).read-line2.ensures
+    (algorithm-line c).read-literal.ensures
+    (algorithm-line c).read-algorithm.ensures
+    (use-line c).read-literal2.ensures
+    (use-line c).read-use.ensures
+    (side-line c).read-line3.ensures
+    (place-line c).read-line4.ensures
+    (mcc-line c).read-code.ensures
+    c.read_code-mnc.ensures
+    c.read_literal-3.ensures
+    c.read_key-key.ensures
+    in
+    let is_found : not c.read_key-key.result.good ≡ false → read_at (record_form (starts_form (text c))) (text c) 0 ≡ found (given c) c.read_key-key.result.place =
+    λ h. whole ∙ pick-left c.read_key-key.result.good _ _ h
+    in
+    let is-small : not c.read_key-key.result.good ≡ false → Small (given c).fields =
+    λ h. let r = spelt (record_form (starts_form (text c))) (text c) 0 (given c) _ (is_found h) in
+    small ((record-means (starts_form (text c))).only (given c) r.text r.spells).0
+    in
+    record { fits = omega (arith, (is-small c.if-not-key.false).version) }
 
 pub overflow_cast-result-2 : goal.overflow_cast-result-2
-overflow_cast-result-2 c = record { fits = omega (arith, (is-small c c.if-not-key.false).algorithm) }
+overflow_cast-result-2 c =
+    let whole : read_at (record_form (starts_form (text c))) (text c) 0 ≡ pick c.read_key-key.result.good (found (given c) c.read_key-key.result.place) (wrong c.read_key-key.result.place) =
+    ap (λ (t : Bool). read_at (record_form t) (text c) 0) (sym (start c).starts-form.ensures)
+    ∙ lines-read (two c) (text c)
+    (form-line c).read-form.ensures
+    (number-line c).read-line.ensures
+    (version-line c).read-line2.ensures
+    (algorithm-line c).read-literal.ensures
+    (algorithm-line c).read-algorithm.ensures
+    (use-line c).read-literal2.ensures
+    (use-line c).read-use.ensures
+    (side-line c).read-line3.ensures
+    (place-line c).read-line4.ensures
+    (mcc-line c).read-code.ensures
+    c.read_code-mnc.ensures
+    c.read_literal-3.ensures
+    c.read_key-key.ensures
+    in
+    let is_found : not c.read_key-key.result.good ≡ false → read_at (record_form (starts_form (text c))) (text c) 0 ≡ found (given c) c.read_key-key.result.place =
+    λ h. whole ∙ pick-left c.read_key-key.result.good _ _ h
+    in
+    let is-small : not c.read_key-key.result.good ≡ false → Small (given c).fields =
+    λ h. let r = spelt (record_form (starts_form (text c))) (text c) 0 (given c) _ (is_found h) in
+    small ((record-means (starts_form (text c))).only (given c) r.text r.spells).0
+    in
+    record { fits = omega (arith, (is-small c.if-not-key.false).algorithm) }
 
 pub overflow_cast-result-3 : goal.overflow_cast-result-3
-overflow_cast-result-3 c = record { fits = omega (arith, (is-small c c.if-not-key.false).usage) }
+overflow_cast-result-3 c =
+    let whole : read_at (record_form (starts_form (text c))) (text c) 0 ≡ pick c.read_key-key.result.good (found (given c) c.read_key-key.result.place) (wrong c.read_key-key.result.place) =
+    ap (λ (t : Bool). read_at (record_form t) (text c) 0) (sym (start c).starts-form.ensures)
+    ∙ lines-read (two c) (text c)
+    (form-line c).read-form.ensures
+    (number-line c).read-line.ensures
+    (version-line c).read-line2.ensures
+    (algorithm-line c).read-literal.ensures
+    (algorithm-line c).read-algorithm.ensures
+    (use-line c).read-literal2.ensures
+    (use-line c).read-use.ensures
+    (side-line c).read-line3.ensures
+    (place-line c).read-line4.ensures
+    (mcc-line c).read-code.ensures
+    c.read_code-mnc.ensures
+    c.read_literal-3.ensures
+    c.read_key-key.ensures
+    in
+    let is_found : not c.read_key-key.result.good ≡ false → read_at (record_form (starts_form (text c))) (text c) 0 ≡ found (given c) c.read_key-key.result.place =
+    λ h. whole ∙ pick-left c.read_key-key.result.good _ _ h
+    in
+    let is-small : not c.read_key-key.result.good ≡ false → Small (given c).fields =
+    λ h. let r = spelt (record_form (starts_form (text c))) (text c) 0 (given c) _ (is_found h) in
+    small ((record-means (starts_form (text c))).only (given c) r.text r.spells).0
+    in
+    record { fits = omega (arith, (is-small c.if-not-key.false).usage) }
 
 pub overflow_cast-result-4 : goal.overflow_cast-result-4
-overflow_cast-result-4 c = record { fits = omega (arith, (is-small c c.if-not-key.false).side) }
+overflow_cast-result-4 c =
+    let whole : read_at (record_form (starts_form (text c))) (text c) 0 ≡ pick c.read_key-key.result.good (found (given c) c.read_key-key.result.place) (wrong c.read_key-key.result.place) =
+    ap (λ (t : Bool). read_at (record_form t) (text c) 0) (sym (start c).starts-form.ensures)
+    ∙ lines-read (two c) (text c)
+    (form-line c).read-form.ensures
+    (number-line c).read-line.ensures
+    (version-line c).read-line2.ensures
+    (algorithm-line c).read-literal.ensures
+    (algorithm-line c).read-algorithm.ensures
+    (use-line c).read-literal2.ensures
+    (use-line c).read-use.ensures
+    (side-line c).read-line3.ensures
+    (place-line c).read-line4.ensures
+    (mcc-line c).read-code.ensures
+    c.read_code-mnc.ensures
+    c.read_literal-3.ensures
+    c.read_key-key.ensures
+    in
+    let is_found : not c.read_key-key.result.good ≡ false → read_at (record_form (starts_form (text c))) (text c) 0 ≡ found (given c) c.read_key-key.result.place =
+    λ h. whole ∙ pick-left c.read_key-key.result.good _ _ h
+    in
+    let is-small : not c.read_key-key.result.good ≡ false → Small (given c).fields =
+    λ h. let r = spelt (record_form (starts_form (text c))) (text c) 0 (given c) _ (is_found h) in
+    small ((record-means (starts_form (text c))).only (given c) r.text r.spells).0
+    in
+    record { fits = omega (arith, (is-small c.if-not-key.false).side) }
 
 pub overflow_cast-result-5 : goal.overflow_cast-result-5
-overflow_cast-result-5 c = record { fits = omega (arith, (is-small c c.if-not-key.false).place) }
+overflow_cast-result-5 c =
+    let whole : read_at (record_form (starts_form (text c))) (text c) 0 ≡ pick c.read_key-key.result.good (found (given c) c.read_key-key.result.place) (wrong c.read_key-key.result.place) =
+    ap (λ (t : Bool). read_at (record_form t) (text c) 0) (sym (start c).starts-form.ensures)
+    ∙ lines-read (two c) (text c)
+    (form-line c).read-form.ensures
+    (number-line c).read-line.ensures
+    (version-line c).read-line2.ensures
+    (algorithm-line c).read-literal.ensures
+    (algorithm-line c).read-algorithm.ensures
+    (use-line c).read-literal2.ensures
+    (use-line c).read-use.ensures
+    (side-line c).read-line3.ensures
+    (place-line c).read-line4.ensures
+    (mcc-line c).read-code.ensures
+    c.read_code-mnc.ensures
+    c.read_literal-3.ensures
+    c.read_key-key.ensures
+    in
+    let is_found : not c.read_key-key.result.good ≡ false → read_at (record_form (starts_form (text c))) (text c) 0 ≡ found (given c) c.read_key-key.result.place =
+    λ h. whole ∙ pick-left c.read_key-key.result.good _ _ h
+    in
+    let is-small : not c.read_key-key.result.good ≡ false → Small (given c).fields =
+    λ h. let r = spelt (record_form (starts_form (text c))) (text c) 0 (given c) _ (is_found h) in
+    small ((record-means (starts_form (text c))).only (given c) r.text r.spells).0
+    in
+    record { fits = omega (arith, (is-small c.if-not-key.false).place) }
 
 pub overflow_cast-result-6 : goal.overflow_cast-result-6
-overflow_cast-result-6 c = record { fits = omega (arith, (is-small c c.if-not-key.false).mcc) }
+overflow_cast-result-6 c =
+    let whole : read_at (record_form (starts_form (text c))) (text c) 0 ≡ pick c.read_key-key.result.good (found (given c) c.read_key-key.result.place) (wrong c.read_key-key.result.place) =
+    ap (λ (t : Bool). read_at (record_form t) (text c) 0) (sym (start c).starts-form.ensures)
+    ∙ lines-read (two c) (text c)
+    (form-line c).read-form.ensures
+    (number-line c).read-line.ensures
+    (version-line c).read-line2.ensures
+    (algorithm-line c).read-literal.ensures
+    (algorithm-line c).read-algorithm.ensures
+    (use-line c).read-literal2.ensures
+    (use-line c).read-use.ensures
+    (side-line c).read-line3.ensures
+    (place-line c).read-line4.ensures
+    (mcc-line c).read-code.ensures
+    c.read_code-mnc.ensures
+    c.read_literal-3.ensures
+    c.read_key-key.ensures
+    in
+    let is_found : not c.read_key-key.result.good ≡ false → read_at (record_form (starts_form (text c))) (text c) 0 ≡ found (given c) c.read_key-key.result.place =
+    λ h. whole ∙ pick-left c.read_key-key.result.good _ _ h
+    in
+    let is-small : not c.read_key-key.result.good ≡ false → Small (given c).fields =
+    λ h. let r = spelt (record_form (starts_form (text c))) (text c) 0 (given c) _ (is_found h) in
+    small ((record-means (starts_form (text c))).only (given c) r.text r.spells).0
+    in
+    record { fits = omega (arith, (is-small c.if-not-key.false).mcc) }
 
 pub overflow_cast-result-7 : goal.overflow_cast-result-7
-overflow_cast-result-7 c = record { fits = omega (arith, (is-small c c.if-not-key.false).mnc) }
+overflow_cast-result-7 c =
+    let whole : read_at (record_form (starts_form (text c))) (text c) 0 ≡ pick c.read_key-key.result.good (found (given c) c.read_key-key.result.place) (wrong c.read_key-key.result.place) =
+    ap (λ (t : Bool). read_at (record_form t) (text c) 0) (sym (start c).starts-form.ensures)
+    ∙ lines-read (two c) (text c)
+    (form-line c).read-form.ensures
+    (number-line c).read-line.ensures
+    (version-line c).read-line2.ensures
+    (algorithm-line c).read-literal.ensures
+    (algorithm-line c).read-algorithm.ensures
+    (use-line c).read-literal2.ensures
+    (use-line c).read-use.ensures
+    (side-line c).read-line3.ensures
+    (place-line c).read-line4.ensures
+    (mcc-line c).read-code.ensures
+    c.read_code-mnc.ensures
+    c.read_literal-3.ensures
+    c.read_key-key.ensures
+    in
+    let is_found : not c.read_key-key.result.good ≡ false → read_at (record_form (starts_form (text c))) (text c) 0 ≡ found (given c) c.read_key-key.result.place =
+    λ h. whole ∙ pick-left c.read_key-key.result.good _ _ h
+    in
+    let is-small : not c.read_key-key.result.good ≡ false → Small (given c).fields =
+    λ h. let r = spelt (record_form (starts_form (text c))) (text c) 0 (given c) _ (is_found h) in
+    small ((record-means (starts_form (text c))).only (given c) r.text r.spells).0
+    in
+    record { fits = omega (arith, (is-small c.if-not-key.false).mnc) }
 
 pub returns : goal.returns
 unfolding record_read
-returns c = sym (ap (read_answer _) (is_found c c.if-not-key.false))
+returns c =
+    let whole : read_at (record_form (starts_form (text c))) (text c) 0 ≡ pick c.read_key-key.result.good (found (given c) c.read_key-key.result.place) (wrong c.read_key-key.result.place) =
+    ap (λ (t : Bool). read_at (record_form t) (text c) 0) (sym (start c).starts-form.ensures)
+    ∙ lines-read (two c) (text c)
+    (form-line c).read-form.ensures
+    (number-line c).read-line.ensures
+    (version-line c).read-line2.ensures
+    (algorithm-line c).read-literal.ensures
+    (algorithm-line c).read-algorithm.ensures
+    (use-line c).read-literal2.ensures
+    (use-line c).read-use.ensures
+    (side-line c).read-line3.ensures
+    (place-line c).read-line4.ensures
+    (mcc-line c).read-code.ensures
+    c.read_code-mnc.ensures
+    c.read_literal-3.ensures
+    c.read_key-key.ensures
+    in
+    let is_found : not c.read_key-key.result.good ≡ false → read_at (record_form (starts_form (text c))) (text c) 0 ≡ found (given c) c.read_key-key.result.place =
+    λ h. whole ∙ pick-left c.read_key-key.result.good _ _ h
+    in
+    sym (ap (read_answer _) (is_found c.if-not-key.false))

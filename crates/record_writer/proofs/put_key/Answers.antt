@@ -8,20 +8,15 @@ put_bytes-value-requires c = room-first _ c.requires
 
 pub put_hex-end-requires : goal.put_hex-end-requires
 put_hex-end-requires c =
-    let name = c in
-    room-first _ (room-then name.put_bytes-value.ensures name.requires)
+    room-first _ (room-then c.put_bytes-value.ensures c.requires)
 
 pub put_bytes-requires : goal.put_bytes-requires
 put_bytes-requires c =
-    let value = c in
-    let name = value in
-    room-then value.put_hex-end.ensures (room-then name.put_bytes-value.ensures name.requires)
+    room-then c.put_hex-end.ensures (room-then c.put_bytes-value.ensures c.requires)
 
 pub returns : goal.returns
 returns c =
-    let end = c in
-    let value = end in
-    put_then value.put_bytes-value.ensures (put_then value.put_hex-end.ensures end.put_bytes.ensures)
+    put_then c.put_bytes-value.ensures (put_then c.put_hex-end.ensures c.put_bytes.ensures)
 
 pub shape_of-buffer : goal.shape_of-buffer
 shape_of-buffer c = put-length (returns c)

@@ -6,20 +6,15 @@ use Rattle.record_writer.proofs.write_record.Goals as goal
 
 pub returns-then-refusal-ne-DONE : goal.returns-then-refusal-ne-DONE
 returns-then-refusal-ne-DONE c =
-    let start = c in
-    refused _ _ _ _ (c.write_refusal-refusal.ensures _ start.well_formed.1.1.0.1.0.1) c.if-refusal-ne-DONE.true
+    refused _ _ _ _ (c.write_refusal-refusal.ensures _ c.well_formed.1.1.0.1.0.1) c.if-refusal-ne-DONE.true
 
 pub put_record-length-requires : goal.put_record-length-requires
 put_record-length-requires c =
-    let start = c in
-    room _ _ _ _ (c.write_refusal-refusal.ensures _ start.well_formed.1.1.0.1.0.1) c.if-refusal-ne-DONE.false
+    room _ _ _ _ (c.write_refusal-refusal.ensures _ c.well_formed.1.1.0.1.0.1) c.if-refusal-ne-DONE.false
 
 pub returns : goal.returns
 returns c =
-    let call = c in
-    let test = call in
-    let start = test in
-    written _ _ _ _ (test.write_refusal-refusal.ensures _ start.well_formed.1.1.0.1.0.1) test.if-refusal-ne-DONE.false call.put_record-length.ensures
+    written _ _ _ _ (c.write_refusal-refusal.ensures _ c.well_formed.1.1.0.1.0.1) c.if-refusal-ne-DONE.false c.put_record-length.ensures
 
 pub shape_of-buffer : goal.shape_of-buffer
 shape_of-buffer c = put-length c.put_record-length.ensures

@@ -17,24 +17,17 @@ use Rattle.record_writer.proofs.write_refusal.Goals as goal
 pub returns : goal.returns
 unfolding write_refusal
 returns c key size =
-    let three = c in
-    let two = three in
-    let one = two in
-    let known = one in
-    let numbered = known in
-    let long = numbered in
-    let rights = long in
-    let asked = rights.args.asked in
-    let number = rights.args.number in
+    let asked = c.args.asked in
+    let number = c.args.number in
     rw (
       c.refuse-4.ensures,
-      three.refuse-3.ensures,
-      two.refuse-2.ensures,
-      one.refuse.ensures,
-      known.is_algorithm.ensures,
-      numbered.is_slot_number.ensures,
-      rights.rights_refusal-rights.ensures,
+      c.refuse-3.ensures,
+      c.refuse-2.ensures,
+      c.refuse.ensures,
+      c.is_algorithm.ensures,
+      c.is_slot_number.ensures,
+      c.rights_refusal-rights.ensures,
     )
     (ap (λ (later : ℕ). pick (not (is_slot_number number)) slot_number_bad (pick (not (is_algorithm asked.algorithm)) algorithm_unknown later))
-    (after-rights (rights_refusal asked) rights.args.room _ (length (record_text number (stored_of asked) key))
-    (λ e. long.text_length-length.ensures ∙ sym (text-length number (stored_of asked) key (right asked e).side size))))
+    (after-rights (rights_refusal asked) c.args.room _ (length (record_text number (stored_of asked) key))
+    (λ e. c.text_length-length.ensures ∙ sym (text-length number (stored_of asked) key (right asked e).side size))))

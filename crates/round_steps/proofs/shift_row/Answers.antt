@@ -14,8 +14,7 @@ loop-c-init c = columns-none (state-shape c.well_formed.0)
 
 pub loop-c-preserved : goal.loop-c-preserved
 unfolding shift_row
-loop-c-preserved c = let turn = c in
-    columns-more turn.loop-c.invariant turn.loop-c-test.true _ _ _ _ (ap (cell turn.args.s 0) (not-turned _ turn.loop-c-test.true).0) refl refl refl
+loop-c-preserved c = columns-more c.loop-c.invariant c.loop-c-test.true _ _ _ _ (ap (cell c.args.s 0) (not-turned _ c.loop-c-test.true).0) refl refl refl
 
 pub returns : goal.returns
 unfolding shift_row

@@ -10,11 +10,8 @@ loop-e-init c = place_none (state-shape c.well_formed.0)
 
 pub loop-e-preserved : goal.loop-e-preserved
 loop-e-preserved c =
-    let word = c in
-    let test = word in
-    let at = test in
-    let a = at.args in
-    round-more a.w.now a.n a.s at.loop-e.invariant test.loop-e-test.true _ word.mixed_word.ensures _ _ _ _
+    let a = c.args in
+    round-more a.w.now a.n a.s c.loop-e.invariant c.loop-e-test.true _ c.mixed_word.ensures _ _ _ _
     c.byte0.ensures c.byte1.ensures c.byte2.ensures c.byte3.ensures
 
 pub overflow_step-e : goal.overflow_step-e

@@ -15,10 +15,9 @@ loop-k-init c = (search rules, (search rules, (refl, λ key g. g)))
 
 pub loop-k-preserved : goal.loop-k-preserved
 loop-k-preserved c =
-    let at = c in
-    let g = at.loop-k.invariant in
+    let g = c.loop-k.invariant in
     let e = c.six_words-last.ensures in
-    let q : 6 * (at.loop-k.k + 1) - 1 ≡ 6 * at.loop-k.k + 5 = omega arith in
+    let q : 6 * (c.loop-k.k + 1) - 1 ≡ 6 * c.loop-k.k + 5 = omega arith in
     (search rules, (search rules, (rw q e.1.0, λ key h. fill-to (e.1.1 key (g.1.1.1 key h)) (omega arith))))
 
 pub returns : goal.returns

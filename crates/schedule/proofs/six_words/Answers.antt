@@ -29,9 +29,8 @@ shape_of-w c = simp length-set
 
 pub returns : goal.returns
 returns c =
-    let start = c in
-    let a = start.args in
-    let e = start.requires in
+    let a = c.args in
+    let e = c.requires in
     let w = a.w.now in
     let constant = c.round_constant in
     let x = bit_xor (get_or w (6 * a.k - 6) 0) (constant.result * 16777216) in

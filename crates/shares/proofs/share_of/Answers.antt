@@ -9,20 +9,25 @@ use Rattle.shares.proofs.Lowest.{positive_of}
 use borrow.Author.Rules.{rules}
 use Rattle.shares.proofs.share_of.Goals as goal
 
-above : (c : goal.After-gcd-divisor) → 0 < c.gcd-divisor.result
-above c =
-    subst (λ (g : ℕ). 0 < g) (sym c.gcd-divisor.ensures)
-    (pos_of_dvd_of_pos (gcd-divides _ _).1 (positive_of _ c.if-whole-eq0.false))
-
 pub returns-then-whole-eq0 : goal.returns-then-whole-eq0
 unfolding share_of
 returns-then-whole-eq0 c = rw (eq-eqb _ _ c.if-whole-eq0.true) c.fraction.ensures
 
 pub nonzero_div-part : goal.nonzero_div-part
-nonzero_div-part c = above c
+nonzero_div-part c =
+    let above : 0 < c.gcd-divisor.result =
+    subst (λ (g : ℕ). 0 < g) (sym c.gcd-divisor.ensures)
+    (pos_of_dvd_of_pos (gcd-divides _ _).1 (positive_of _ c.if-whole-eq0.false))
+    in
+    above
 
 pub nonzero_div-whole : goal.nonzero_div-whole
-nonzero_div-whole c = above c
+nonzero_div-whole c =
+    let above : 0 < c.gcd-divisor.result =
+    subst (λ (g : ℕ). 0 < g) (sym c.gcd-divisor.ensures)
+    (pos_of_dvd_of_pos (gcd-divides _ _).1 (positive_of _ c.if-whole-eq0.false))
+    in
+    above
 
 pub returns : goal.returns
 unfolding share_of

@@ -14,7 +14,5 @@ returns-then-buffer-lt-ROOM c = rw (lt-ltb _ _ c.if-buffer-lt-ROOM.true) (refl, 
 pub returns : goal.returns
 unfolding listing
 returns c =
-    let call = c in
-    let load = call in
-    let put = call.put_loaded.ensures in
-    listed _ _ load.if-buffer-lt-ROOM.false put.0 (put_as (ap loaded_text load.load_all.ensures) put.1)
+    let put = c.put_loaded.ensures in
+    listed _ _ c.if-buffer-lt-ROOM.false put.0 (put_as (ap loaded_text c.load_all.ensures) put.1)

@@ -10,26 +10,21 @@ use Rattle.sheet_faults.proofs.any_fault.Goals as goal
 
 pub returns-then-has_fault : goal.returns-then-has_fault
 returns-then-has_fault c =
-    let line = c in
-    let test = line in
-    sym (test.loop-at.invariant.1
-    ∙ fault-here _ _ test.loop-at-test.true line.line_at_lem.ensures test.args.fault (sym c.has_fault.ensures ∙ c.if-has_fault.true))
+    sym (c.loop-at.invariant.1
+    ∙ fault-here _ _ c.loop-at-test.true c.line_at-line.ensures c.args.fault (sym c.has_fault.ensures ∙ c.if-has_fault.true))
 
 pub loop-at-preserved : goal.loop-at-preserved
-loop-at-preserved c =
-    let line = c in
-    let test = line in (
-      c.next_line-next.ensures.2,
-      test.loop-at.invariant.1
-          ∙ fault-on _ _ test.loop-at-test.true line.line_at_lem.ensures c.next_line-next.ensures.0 test.args.fault (sym c.has_fault.ensures ∙ c.if-has_fault.false),
-    )
+loop-at-preserved c = (
+  c.next_line-next.ensures.2,
+  c.loop-at.invariant.1
+      ∙ fault-on _ _ c.loop-at-test.true c.line_at-line.ensures c.next_line-next.ensures.0 c.args.fault (sym c.has_fault.ensures ∙ c.if-has_fault.false),
+)
 
 pub returns : goal.returns
 unfolding any_fault
 returns c =
-    let loop = c in
-    let args = loop.args in
-    sym (loop.loop-at.invariant.1 ∙ ap (any_fault args.fault) (lines_end args.text.now loop.loop-at.at c.loop-at-test.false))
+    let args = c.args in
+    sym (c.loop-at.invariant.1 ∙ ap (any_fault args.fault) (lines_end args.text.now c.loop-at.at c.loop-at-test.false))
 
 pub loop-at-init : goal.loop-at-init
 loop-at-init c = (omega arith, refl)

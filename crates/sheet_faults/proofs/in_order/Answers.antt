@@ -12,31 +12,26 @@ use Rattle.sheet_faults.proofs.in_order.Goals as goal
 
 pub returns-then-k-least : goal.returns-then-k-least
 returns-then-k-least c =
-    let line = c in
-    let test = line in
-    sym (test.loop-at.invariant.1
-    ∙ order-here _ _ test.loop-at-test.true line.line_at_lem.ensures (omega (arith, c.number_in-k.ensures, c.if-k-least.true)))
+    sym (c.loop-at.invariant.1
+    ∙ order-here _ _ c.loop-at-test.true c.line_at.ensures (omega (arith, c.number_in-k.ensures, c.if-k-least.true)))
 
 pub overflow_add-least : goal.overflow_add-least
-overflow_add-least c = record { fits = omega (arith, c.number_in-k.ensures, number-most (name_in c.line_at_lem.result.now)) }
+overflow_add-least c = record { fits = omega (arith, c.number_in-k.ensures, number-most (name_in c.line_at.result.now)) }
 
 pub loop-at-preserved : goal.loop-at-preserved
 loop-at-preserved c =
-    let line = c in
-    let test = line in
-    let text = test.args.text.now in (
+    let text = c.args.text.now in (
       c.next_line-next.ensures.2,
-      test.loop-at.invariant.1
-          ∙ order-on _ _ test.loop-at-test.true line.line_at_lem.ensures c.next_line-next.ensures.0 (omega (arith, c.number_in-k.ensures, c.if-k-least.false))
+      c.loop-at.invariant.1
+          ∙ order-on _ _ c.loop-at-test.true c.line_at.ensures c.next_line-next.ensures.0 (omega (arith, c.number_in-k.ensures, c.if-k-least.false))
           ∙ ap (λ (k : ℕ). in_order_from (k + 1) (lines_of (drop c.next_line-next.result text))) (sym c.number_in-k.ensures),
     )
 
 pub returns : goal.returns
 unfolding in_order_from
 returns c =
-    let loop = c in
-    let args = loop.args in
-    sym (loop.loop-at.invariant.1 ∙ ap (in_order_from loop.loop-at.least) (lines_end args.text.now loop.loop-at.at c.loop-at-test.false))
+    let args = c.args in
+    sym (c.loop-at.invariant.1 ∙ ap (in_order_from c.loop-at.least) (lines_end args.text.now c.loop-at.at c.loop-at-test.false))
 
 pub loop-at-init : goal.loop-at-init
 loop-at-init c = (omega arith, refl)

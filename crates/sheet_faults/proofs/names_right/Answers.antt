@@ -17,17 +17,13 @@ loop-k-init c =
 
 pub returns-then-not-is_named_right : goal.returns-then-not-is_named_right
 returns-then-not-is_named_right c =
-    let name = c in
-    let test = name in
-    sym (test.loop-k.invariant
-    ∙ names-wrong _ _ _ (omega (arith, test.loop-k-test.true)) (eqb-false _ _ (sym name.is_named_right.ensures ∙ c.if-not-is_named_right.true)))
+    sym (c.loop-k.invariant
+    ∙ names-wrong _ _ _ (omega (arith, c.loop-k-test.true)) (eqb-false _ _ (sym c.is_named_right.ensures ∙ c.if-not-is_named_right.true)))
 
 pub loop-k-preserved : goal.loop-k-preserved
 loop-k-preserved c =
-    let name = c in
-    let test = name in
-    test.loop-k.invariant
-    ∙ names-on _ _ _ (omega (arith, test.loop-k-test.true)) (eqb-true _ _ (sym name.is_named_right.ensures ∙ c.if-not-is_named_right.false))
+    c.loop-k.invariant
+    ∙ names-on _ _ _ (omega (arith, c.loop-k-test.true)) (eqb-true _ _ (sym c.is_named_right.ensures ∙ c.if-not-is_named_right.false))
 
 pub returns : goal.returns
 returns c = sym (c.loop-k.invariant ∙ names-all _ _ _ (omega (arith, c.loop-k-test.false)))

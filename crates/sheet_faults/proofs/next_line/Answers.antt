@@ -11,15 +11,13 @@ use Rattle.sheet_faults.proofs.next_line.Goals as goal
 
 pub overflow_add-result : goal.overflow_add-result
 overflow_add-result c =
-    let start = c in
-    record { fits = omega (arith, c.piece_length.ensures ∙ ap (piece_length lf) c.rest-s.ensures, next-within start.args.text.now start.args.at start.requires) }
+    record { fits = omega (arith, c.piece_length.ensures ∙ ap (piece_length lf) c.rest-s.ensures, next-within c.args.text.now c.args.at c.requires) }
 
 pub returns : goal.returns
 returns c =
-    let start = c in
-    let e : c.piece_length.result ≡ piece_length lf (drop start.args.at start.args.text.now) =
+    let e : c.piece_length.result ≡ piece_length lf (drop c.args.at c.args.text.now) =
     c.piece_length.ensures ∙ ap (piece_length lf) c.rest-s.ensures in (
-      ap (start.args.at +◌) e,
-      omega (arith, next-after start.args.text.now start.args.at start.requires),
-      omega (arith, next-within start.args.text.now start.args.at start.requires),
+      ap (c.args.at +◌) e,
+      omega (arith, next-after c.args.text.now c.args.at c.requires),
+      omega (arith, next-within c.args.text.now c.args.at c.requires),
     )

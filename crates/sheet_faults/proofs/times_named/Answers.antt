@@ -19,20 +19,16 @@ overflow_add-times c = record { fits = omega (arith, c.one_if-times.ensures, at_
 
 pub loop-at-preserved : goal.loop-at-preserved
 loop-at-preserved c =
-    let call = c in
-    let test = call in
-    let loop = test in
-    let args = loop.args in
-    let one : call.one_if-times.result ≡ pick (eqb (number_in call.line_at_lem.result.now) args.k) 1 0 =
-    call.one_if-times.ensures ∙ ap (λ (n : ℕ). pick (eqb n args.k) 1 0) call.number_in.ensures in (
+    let args = c.args in
+    let one : c.one_if-times.result ≡ pick (eqb (number_in c.line_at-line.result.now) args.k) 1 0 =
+    c.one_if-times.ensures ∙ ap (λ (n : ℕ). pick (eqb n args.k) 1 0) c.number_in.ensures in (
       c.next_line-next.ensures.2,
-      omega (arith, c.next_line-next.ensures.1, call.one_if-times.ensures, at_most_one (eqb call.number_in.result args.k)),
-      omega (arith, one, times-on args.text.now loop.loop-at.at test.loop-at-test.true call.line_at_lem.ensures c.next_line-next.ensures.0 args.k),
+      omega (arith, c.next_line-next.ensures.1, c.one_if-times.ensures, at_most_one (eqb c.number_in.result args.k)),
+      omega (arith, one, times-on args.text.now c.loop-at.at c.loop-at-test.true c.line_at-line.ensures c.next_line-next.ensures.0 args.k),
     )
 
 pub returns : goal.returns
 unfolding times_named
 returns c =
-    let loop = c in
-    let args = loop.args in
-    omega (arith, ap (times_named args.k) (lines_end args.text.now loop.loop-at.at c.loop-at-test.false))
+    let args = c.args in
+    omega (arith, ap (times_named args.k) (lines_end args.text.now c.loop-at.at c.loop-at-test.false))

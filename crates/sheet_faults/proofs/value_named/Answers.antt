@@ -11,28 +11,23 @@ use Rattle.sheet_faults.proofs.value_named.Goals as goal
 
 pub returns-then-number_in-k : goal.returns-then-number_in-k
 returns-then-number_in-k c =
-    let line = c in
-    let test = line in
     c.value_in.ensures
-    ∙ sym (test.loop-at.invariant.1
-    ∙ value-here _ _ test.loop-at-test.true line.line_at_lem.ensures (sym c.number_in.ensures ∙ c.if-number_in-k.true))
+    ∙ sym (c.loop-at.invariant.1
+    ∙ value-here _ _ c.loop-at-test.true c.line_at-line.ensures (sym c.number_in.ensures ∙ c.if-number_in-k.true))
 
 pub loop-at-preserved : goal.loop-at-preserved
-loop-at-preserved c =
-    let line = c in
-    let test = line in (
-      c.next_line-next.ensures.2,
-      test.loop-at.invariant.1
-          ∙ value_on _ _ test.loop-at-test.true line.line_at_lem.ensures c.next_line-next.ensures.0 (λ e. c.if-number_in-k.false (c.number_in.ensures ∙ e)),
-    )
+loop-at-preserved c = (
+  c.next_line-next.ensures.2,
+  c.loop-at.invariant.1
+      ∙ value_on _ _ c.loop-at-test.true c.line_at-line.ensures c.next_line-next.ensures.0 (λ e. c.if-number_in-k.false (c.number_in.ensures ∙ e)),
+)
 
 pub returns : goal.returns
 unfolding value_named
 returns c =
-    let loop = c in
-    let args = loop.args in
+    let args = c.args in
     c.rest.ensures ∙ drop-length args.text.now
-    ∙ sym (loop.loop-at.invariant.1 ∙ ap (value_named args.k) (lines_end args.text.now loop.loop-at.at c.loop-at-test.false))
+    ∙ sym (c.loop-at.invariant.1 ∙ ap (value_named args.k) (lines_end args.text.now c.loop-at.at c.loop-at-test.false))
 
 pub loop-at-init : goal.loop-at-init
 loop-at-init c = (omega arith, refl)

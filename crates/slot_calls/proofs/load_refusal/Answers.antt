@@ -6,20 +6,16 @@ use Rattle.slot_calls.proofs.load_refusal.Goals as goal
 pub returns : goal.returns
 unfolding load_refusal_of
 returns c =
-    let four = c in
-    let two = four in
-    let filled = two in
-    let numbered = filled in
     rw (
       c.refuse-6.ensures,
       c.refuse-5.ensures,
-      four.refuse-4.ensures,
-      four.refuse-3.ensures,
-      two.refuse-2.ensures,
-      two.refuse.ensures,
-      filled.are_filled.ensures,
-      filled.is_algorithm.ensures,
-      numbered.is_slot_number.ensures,
-      numbered.rights_refusal-rights.ensures,
-      numbered.is_out_of_service-out_of_service.ensures,
+      c.refuse-4.ensures,
+      c.refuse-3.ensures,
+      c.refuse-2.ensures,
+      c.refuse.ensures,
+      c.are_filled.ensures,
+      c.is_algorithm.ensures,
+      c.is_slot_number.ensures,
+      c.rights_refusal-rights.ensures,
+      c.is_out_of_service-out_of_service.ensures,
     )

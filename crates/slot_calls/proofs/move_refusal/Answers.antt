@@ -19,19 +19,7 @@ one-rung bad false to later = refl
 pub returns : goal.returns
 unfolding move_refusal_of
 returns c =
-    let six = c in
-    let five = six in
-    let four = five in
-    let three = four in
-    let two = three in
-    let one = two in
-    let may = one in
-    let code = may in
-    let filled = code in
-    let empty = filled in
-    let to = empty in
-    let from = to in
-    let a = from.args in
-    rw (c.refuse-7.ensures, six.refuse-6.ensures, five.refuse-5.ensures, to.is_slot_number-2.ensures, from.is_slot_number.ensures)
-    (one-rung a.bad (not (is_slot_number a.from)) (not (is_slot_number a.to)) four.refuse-4.result
-    ∙ rw (four.refuse-4.ensures, three.refuse-3.ensures, two.refuse-2.ensures, one.refuse.ensures, may.may_move.ensures, code.is_asked_use.ensures, filled.are_filled.ensures, empty.is_no_fields.ensures, keyless-empty a.f))
+    let a = c.args in
+    rw (c.refuse-7.ensures, c.refuse-6.ensures, c.refuse-5.ensures, c.is_slot_number-2.ensures, c.is_slot_number.ensures)
+    (one-rung a.bad (not (is_slot_number a.from)) (not (is_slot_number a.to)) c.refuse-4.result
+    ∙ rw (c.refuse-4.ensures, c.refuse-3.ensures, c.refuse-2.ensures, c.refuse.ensures, c.may_move.ensures, c.is_asked_use.ensures, c.are_filled.ensures, c.is_no_fields.ensures, keyless-empty a.f))

@@ -7,6 +7,4 @@ use Rattle.slot_calls.proofs.slot_refusal.Goals as goal
 pub returns : goal.returns
 unfolding slot_refusal_of
 returns c =
-    let one = c in
-    let none = one in
-    rw (c.refuse-2.ensures, one.refuse.ensures, none.is_no_fields.ensures, none.is_slot_number.ensures, keyless-empty none.args.f)
+    rw (c.refuse-2.ensures, c.refuse.ensures, c.is_no_fields.ensures, c.is_slot_number.ensures, keyless-empty c.args.f)

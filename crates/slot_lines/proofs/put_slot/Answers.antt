@@ -8,20 +8,21 @@ use Rattle.writing.proofs.Puts.{put_as, put-none}
 use Rattle.slot_lines.proofs.Lines.{filled-text, empty-text}
 use Rattle.slot_lines.proofs.put_slot.Goals as goal
 
-is-filled : (c : goal.Then-is_filled) → is_filled c.args.slot ≡ true
-is-filled c = sym c.is_filled.ensures ∙ c.if-is_filled.true
-
 pub put_slot_line-requires : goal.put_slot_line-requires
 unfolding is_filled
 put_slot_line-requires c =
-    let test = c in
-    let pre = test.requires in
-    (pre.0, pre.1, is-filled test)
+    let is-filled : is_filled c.args.slot ≡ true =
+    sym c.is_filled.ensures ∙ c.if-is_filled.true
+    in
+    let pre = c.requires in
+    (pre.0, pre.1, is-filled)
 
 pub returns-then-is_filled : goal.returns-then-is_filled
 returns-then-is_filled c =
-    let call = c in
-    (call.put_slot_line.ensures.0, put_as (sym (filled-text _ _ (is-filled call))) call.put_slot_line.ensures.1)
+    let is-filled : is_filled c.args.slot ≡ true =
+    sym c.is_filled.ensures ∙ c.if-is_filled.true
+    in
+    (c.put_slot_line.ensures.0, put_as (sym (filled-text _ _ is-filled)) c.put_slot_line.ensures.1)
 
 pub returns : goal.returns
 returns c = (omega arith, put_as (sym (empty-text _ _ (sym c.is_filled.ensures ∙ c.if-is_filled.false))) (put-none _ _))

@@ -14,21 +14,17 @@ loop-i-init c = (omega arith, omega arith, left-all)
 
 pub put_slot-next-requires : goal.put_slot-next-requires
 put_slot-next-requires c =
-    let loop = c in
-    let size = loop.loop-i.invariant.2.size in
+    let size = c.loop-i.invariant.2.size in
     (omega arith, omega arith)
 
 pub loop-i-preserved : goal.loop-i-preserved
 loop-i-preserved c =
-    let call = c in
-    let loop = call in
-    let put = call.put_slot-next.ensures in
-    (omega arith, omega (arith, put.0), left-next (left_as (lines_next loop.args.table loop.loop-i.i (search rules)) loop.loop-i.invariant.2) put.1)
+    let put = c.put_slot-next.ensures in
+    (omega arith, omega (arith, put.0), left-next (left_as (lines_next c.args.table c.loop-i.i (search rules)) c.loop-i.invariant.2) put.1)
 
 pub returns : goal.returns
 returns c =
-    let loop = c in
-    (omega arith, left-none (left_as (lines_none loop.args.table loop.loop-i.i (search rules)) loop.loop-i.invariant.2))
+    (omega arith, left-none (left_as (lines_none c.args.table c.loop-i.i (search rules)) c.loop-i.invariant.2))
 
 pub shape_of-buffer : goal.shape_of-buffer
 shape_of-buffer c = put-length (returns c).1

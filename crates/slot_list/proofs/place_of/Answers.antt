@@ -12,14 +12,18 @@ returns-then-count-ne32 c = rw (ne_eqb _ 32 c.if-count-ne32.true)
 
 pub returns-then-not-is_slot_number : goal.returns-then-not-is_slot_number
 returns-then-not-is_slot_number c =
-    let n = c in
-    rw (eq-eqb _ 32 n.if-count-ne32.false, sym n.is_slot_number.ensures ∙ c.if-not-is_slot_number.true)
-
-numbered : (c : goal.Else-not-is_slot_number) → is_slot_number c.args.number ≡ true
-numbered c = sym c.is_slot_number.ensures ∙ c.if-not-is_slot_number.false
+    rw (eq-eqb _ 32 c.if-count-ne32.false, sym c.is_slot_number.ensures ∙ c.if-not-is_slot_number.true)
 
 pub returns : goal.returns
-returns c = rw (eq-eqb _ 32 c.if-count-ne32.false, numbered c)
+returns c =
+    let numbered : is_slot_number c.args.number ≡ true =
+    sym c.is_slot_number.ensures ∙ c.if-not-is_slot_number.false
+    in
+    rw (eq-eqb _ 32 c.if-count-ne32.false, numbered)
 
 pub overflow_sub-result : goal.overflow_sub-result
-overflow_sub-result c = between-low 1 _ 32 (numbered c)
+overflow_sub-result c =
+    let numbered : is_slot_number c.args.number ≡ true =
+    sym c.is_slot_number.ensures ∙ c.if-not-is_slot_number.false
+    in
+    between-low 1 _ 32 numbered

@@ -7,13 +7,11 @@ use Rattle.slot_puts.proofs.load_of.Goals as goal
 
 pub returns-then-refusal-ne-DONE : goal.returns-then-refusal-ne-DONE
 returns-then-refusal-ne-DONE c =
-    let d = c in
-    rw (← d.load_refusal-refusal.ensures, ne_eqb _ _ d.if-refusal-ne-DONE.true, c.empty_slot.ensures)
+    rw (← c.load_refusal-refusal.ensures, ne_eqb _ _ c.if-refusal-ne-DONE.true, c.empty_slot.ensures)
 
 pub returns : goal.returns
 returns c =
-    let d = c in
-    rw (← d.load_refusal-refusal.ensures, d.if-refusal-ne-DONE.false, c.stored.ensures)
+    rw (← c.load_refusal-refusal.ensures, c.if-refusal-ne-DONE.false, c.stored.ensures)
 
 pub stored-requires : goal.stored-requires
 stored-requires c = (load-passed-of _ _ _ _ (sym c.load_refusal-refusal.ensures ∙ c.if-refusal-ne-DONE.false)).ranges

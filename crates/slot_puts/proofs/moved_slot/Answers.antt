@@ -9,9 +9,8 @@ use Rattle.slot_puts.proofs.moved_slot.Goals as goal
 
 pub overflow_cast-fields : goal.overflow_cast-fields
 overflow_cast-fields c =
-    let s = c in
-    let u = moved_use s.args.slot.fields.usage s.args.asked in
-    omega (arith, c.moved_use.ensures, between-high 1 u 3 (and_left (is_use u) _ s.requires))
+    let u = moved_use c.args.slot.fields.usage c.args.asked in
+    omega (arith, c.moved_use.ensures, between-high 1 u 3 (and_left (is_use u) _ c.requires))
 
 pub returns : goal.returns
 returns c = rw c.moved_use.ensures

@@ -5,8 +5,7 @@ use Rattle.slot_puts.proofs.read_of.Goals as goal
 
 pub returns-then-refusal-ne-DONE : goal.returns-then-refusal-ne-DONE
 returns-then-refusal-ne-DONE c =
-    let d = c in
-    rw (← d.clear_refusal-refusal.ensures, ne_eqb _ _ d.if-refusal-ne-DONE.true, c.no_fields.ensures)
+    rw (← c.clear_refusal-refusal.ensures, ne_eqb _ _ c.if-refusal-ne-DONE.true, c.no_fields.ensures)
 
 pub returns : goal.returns
 returns c = rw (← c.clear_refusal-refusal.ensures, c.if-refusal-ne-DONE.false)

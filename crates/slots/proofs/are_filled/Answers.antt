@@ -10,11 +10,9 @@ use Rattle.slots.proofs.are_filled.Goals as goal
 
 pub returns-then-is_algorithm : goal.returns-then-is_algorithm
 returns-then-is_algorithm c =
-    let d = c in
-    rw (filled-by (keyless d.args.f) _ d.asked-a.ensures, sym d.is_algorithm.ensures ∙ c.if-is_algorithm.true)
+    rw (filled-by (keyless c.args.f) _ c.asked-a.ensures, sym c.is_algorithm.ensures ∙ c.if-is_algorithm.true)
     (ap (λ (n : ℕ). eqb n done) c.rights_refusal.ensures)
 
 pub returns-else-is_algorithm : goal.returns-else-is_algorithm
 returns-else-is_algorithm c =
-    let d = c in
-    rw (filled-by (keyless d.args.f) _ d.asked-a.ensures, c.if-is_algorithm.false, sym d.is_algorithm.ensures ∙ c.if-is_algorithm.false)
+    rw (filled-by (keyless c.args.f) _ c.asked-a.ensures, c.if-is_algorithm.false, sym c.is_algorithm.ensures ∙ c.if-is_algorithm.false)

@@ -14,8 +14,7 @@ wide f = sym (or-none (bit_or f.version f.mcc) f.mnc ∙ ap (λ (t : Bool). t &&
 
 pub returns-then-f-eq0 : goal.returns-then-f-eq0
 returns-then-f-eq0 c =
-    let test = c in
-    rw (wide test.args.f ∙ eq-eqb _ _ test.if-f-eq0.true) (simp or-none)
+    rw (wide c.args.f ∙ eq-eqb _ _ c.if-f-eq0.true) (simp or-none)
 
 pub returns-else-f-eq0 : goal.returns-else-f-eq0
 returns-else-f-eq0 c = rw (wide c.args.f ∙ ne_eqb _ _ c.if-f-eq0.false, ne_eqb _ _ c.if-f-eq0.false)

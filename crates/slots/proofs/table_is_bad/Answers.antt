@@ -9,13 +9,11 @@ use Rattle.slots.proofs.table_is_bad.Goals as goal
 
 pub returns-then-is_bad : goal.returns-then-is_bad
 returns-then-is_bad c =
-    let l = c in
-    rw (l.loop-i.invariant.1, bad-next l.args.table l.loop-i.i (search rules), sym c.is_bad.ensures ∙ c.if-is_bad.true)
+    rw (c.loop-i.invariant.1, bad-next c.args.table c.loop-i.i (search rules), sym c.is_bad.ensures ∙ c.if-is_bad.true)
 
 pub loop-i-preserved : goal.loop-i-preserved
 loop-i-preserved c =
-    let l = c in
-    (search rules, rw (l.loop-i.invariant.1, bad-next l.args.table l.loop-i.i (search rules), sym c.is_bad.ensures ∙ c.if-is_bad.false))
+    (search rules, rw (c.loop-i.invariant.1, bad-next c.args.table c.loop-i.i (search rules), sym c.is_bad.ensures ∙ c.if-is_bad.false))
 
 pub returns : goal.returns
 returns c = sym (c.loop-i.invariant.1 ∙ bad-none c.args.table c.loop-i.i (search rules))

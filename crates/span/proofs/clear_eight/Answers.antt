@@ -6,7 +6,6 @@ use Rattle.span.proofs.clear_eight.Goals as goal
 
 pub returns : goal.returns
 returns c =
-    let known = c in
-    let a = known.args in
+    let a = c.args in
     rw (c.first_off.ensures, c.last_off.ensures)
-    (eight-cleared a.z.now a.i (omega arith) (λ q. omega (arith, known.slice_known-1.given q)))
+    (eight-cleared a.z.now a.i (omega arith) (λ q. omega (arith, c.slice_known-1.given q)))

@@ -30,11 +30,10 @@ returns-then-o-eq0 c =
 
 pub returns : goal.returns
 returns c =
-    let at = c in
-    let old = at.args.s.now in
-    let n = at.args.n in
-    let l = at.loop-y in
+    let old = c.args.s.now in
+    let n = c.args.n in
+    let l = c.loop-y in
     let y : l.y ≡ n / 8 = omega arith in
     let all : 8 * (n / 8) + n % 8 ≡ n = omega arith in
-    cleared_more old l.s (n / 8) (n % 8) c.first_off.result (omega arith) (omega arith) (rw y at l.invariant.2) c.first_off.ensures
+    cleared_more old l.s (n / 8) (n % 8) c.first_off.result (omega arith) (omega arith) (rw y c l.invariant.2) c.first_off.ensures
     ∙ ap (zeroed old 0) all

@@ -11,9 +11,8 @@ use Rattle.span.proofs.xor_block.Goals as goal
 
 pub returns : goal.returns
 returns c =
-    let done = c in
-    let a = done.args in
+    let a = c.args in
     let start : 8 * (a.at / 8) + a.at % 8 ≡ a.at = omega arith in
-    tail-back a.s.now done.xor_part.new.s (bit_at a.k) (a.at / 8) (a.at % 8) a.from a.n (at_lt a.k) (omega arith)
-    done.xor_part.ensures (λ q. omega (arith, c.slice_known-2-1.given q))
+    tail-back a.s.now c.xor_part.new.s (bit_at a.k) (a.at / 8) (a.at % 8) a.from a.n (at_lt a.k) (omega arith)
+    c.xor_part.ensures (λ q. omega (arith, c.slice_known-2-1.given q))
     ∙ ap (λ (m : ℕ). xored a.s.now (bit_at a.k) m a.from a.n) start

@@ -11,12 +11,10 @@ use Rattle.span.proofs.xor_part.Goals as goal
 
 pub returns : goal.returns
 returns c =
-    let done = c in
-    let made = done in
-    let a = made.args in
+    let a = c.args in
     let e = a.from + 8 - a.at in
     let first = 8 * (e / 8) + e % 8 in
     let bits = 8 * ((a.at + a.n + 7) / 8) in
-    done.xor_shifted.ensures
-    ∙ ap (λ (z : List ℕ). xored a.s.now (bit_at z) 0 first bits) made.run_alone-z.ensures
+    c.xor_shifted.ensures
+    ∙ ap (λ (z : List ℕ). xored a.s.now (bit_at z) 0 first bits) c.run_alone-z.ensures
     ∙ run_only a.k a.from a.n (search rules) (omega arith) a.s.now a.at first bits (omega arith) (omega arith) (omega arith) (omega arith)

@@ -17,9 +17,8 @@ loop-y-init c =
 
 pub loop-y-preserved : goal.loop-y-preserved
 loop-y-preserved c =
-    let at = c in
-    let a = at.args in
-    let l = at.loop-y in
+    let a = c.args in
+    let l = c.loop-y in
     let from = 8 * a.d + a.o in (
       search rules,
       simp length-set l.invariant.1,

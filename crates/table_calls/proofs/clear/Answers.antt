@@ -11,12 +11,10 @@ use Rattle.table_calls.proofs.clear.Goals as goal
 
 pub returns : goal.returns
 returns c =
-    let put = c in
-    let slot = put in
-    let a = slot.args in
+    let a = c.args in
     c.put_to.ensures
     ∙ ap (changed_by a.table a.number)
-    (put.Clear-of.ensures ∙ (λ i. clear_put (slot.table_is_bad.ensures i) (keyless (slot.fields_or_none.ensures i)) a.number))
+    (c.Clear-of.ensures ∙ (λ i. clear_put (c.table_is_bad.ensures i) (keyless (c.fields_or_none.ensures i)) a.number))
     ∙ clear-put _ a.table a.number _ (slot-there a.table a.number)
 
 pub put_to-requires : goal.put_to-requires

@@ -11,12 +11,10 @@ use Rattle.table_calls.proofs.load.Goals as goal
 
 pub returns : goal.returns
 returns c =
-    let put = c in
-    let slot = put in
-    let a = slot.args in
+    let a = c.args in
     c.put_to.ensures
     ∙ ap (changed_by a.table a.number)
-    (put.load_of-put.ensures ∙ (λ i. load_put (slot.table_is_bad.ensures i) (keyless (slot.fields_or_none.ensures i)) a.number a.asked a.key))
+    (c.load_of-put.ensures ∙ (λ i. load_put (c.table_is_bad.ensures i) (keyless (c.fields_or_none.ensures i)) a.number a.asked a.key))
     ∙ load-put _ a.table a.number _ (slot-there a.table a.number) a.asked a.key
 
 pub put_to-requires : goal.put_to-requires

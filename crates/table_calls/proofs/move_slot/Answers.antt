@@ -21,38 +21,38 @@ refusal p = p.refusal
 
 -- the refusal, by what the table shows
 
-abbrev start : goal.After-move_refusal-refusal → goal.Start
-start c = c
-
 abbrev answer : goal.Start → ℕ
 answer s = let a = s.args in move_refusal_of (has_bad a.table) (keyless (slot_as a.table a.from).fields) (keyless (slot_as a.table a.to).fields) a.from a.to a.asked
 
-answered : (c : goal.After-move_refusal-refusal) → c.move_refusal-refusal.result ≡ answer (start c)
-answered c =
-    let a = (start c).args in
+pub move_of-put-requires : goal.move_of-put-requires
+move_of-put-requires c e =
+    let answered : c.move_refusal-refusal.result ≡ answer (start c) =
+    let a = c.args in
     c.move_refusal-refusal.ensures
     ∙ (λ i. move_refusal_of (c.table_is_bad.ensures i) (keyless (c.fields_or_none.ensures i)) (keyless (c.fields_or_none-2.ensures i)) a.from a.to a.asked)
-
-passed : (c : goal.After-move_refusal-refusal) → c.move_refusal-refusal.result ≡ done
-    → let a = (start c).args in MovePassedOf (has_bad a.table) (keyless (slot_as a.table a.from).fields) (keyless (slot_as a.table a.to).fields) a.from a.to a.asked
-passed c e = move-passed-of _ _ _ _ _ _ (sym (answered c) ∙ e)
-
-pub move_of-put-requires : goal.move_of-put-requires
-move_of-put-requires c e = ap (λ (s : Slot). stays_within s.fields.usage (start c).args.asked) c.slot_or_empty.ensures ∙ (passed c e).narrow
+    in
+    let passed : c.move_refusal-refusal.result ≡ done → let a = (start c).args in MovePassedOf (has_bad a.table) (keyless (slot_as a.table a.from).fields) (keyless (slot_as a.table a.to).fields) a.from a.to a.asked =
+    λ e. move-passed-of _ _ _ _ _ _ (sym answered ∙ e)
+    in
+    ap (λ (s : Slot). stays_within s.fields.usage c.args.asked) c.slot_or_empty.ensures ∙ (passed e).narrow
 
 pub returns : goal.returns
 returns c =
-    let empties = c in
-    let put = empties in
-    let slot = put in
-    let judged = slot in
-    let a = (start judged).args in
-    let made = put.move_of-put.ensures ∙ (λ i. move_put (answered judged i) (slot.slot_or_empty.ensures i) a.asked) in
+    let answered : c.move_refusal-refusal.result ≡ answer (start c) =
+    let a = c.args in
+    c.move_refusal-refusal.ensures
+    ∙ (λ i. move_refusal_of (c.table_is_bad.ensures i) (keyless (c.fields_or_none.ensures i)) (keyless (c.fields_or_none-2.ensures i)) a.from a.to a.asked)
+    in
+    let passed : c.move_refusal-refusal.result ≡ done → let a = (start c).args in MovePassedOf (has_bad a.table) (keyless (slot_as a.table a.from).fields) (keyless (slot_as a.table a.to).fields) a.from a.to a.asked =
+    λ e. move-passed-of _ _ _ _ _ _ (sym answered ∙ e)
+    in
+    let a = c.args in
+    let made = c.move_of-put.ensures ∙ (λ i. move_put (answered i) (c.slot_or_empty.ensures i) a.asked) in
     c.put_to.ensures
-    ∙ (λ i. changed_by (empties.put_to-carried.ensures i).table a.from (empties.emptied.ensures i))
+    ∙ (λ i. changed_by (c.put_to-carried.ensures i).table a.from (c.emptied.ensures i))
     ∙ (λ i. changed_by (put_to a.table a.to (made i)) a.from (emptied_by (made i)))
     ∙ move-put (has_bad a.table) a.table a.from a.to a.asked _ _ (slot-there a.table a.from) (slot-there a.table a.to) (slot_as a.table a.from)
-    (λ e. ap (λ (n : Bool). pick n (slot_at a.table a.from) empty) (passed judged (answered judged ∙ e)).from-numbered)
+    (λ e. ap (λ (n : Bool). pick n (slot_at a.table a.from) empty) (passed (answered ∙ e)).from-numbered)
 
 pub put_to-carried-requires : goal.put_to-carried-requires
 put_to-carried-requires = (λ c κs e. (passed c (sym (ap refusal c.move_of-put.ensures) ∙ e)).to-numbered)

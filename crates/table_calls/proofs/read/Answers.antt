@@ -8,8 +8,7 @@ use Rattle.table_calls.proofs.read.Goals as goal
 
 pub returns : goal.returns
 returns c =
-    let slot = c in
-    let a = slot.args in
+    let a = c.args in
     c.Read-of.ensures
-    ∙ (λ i. shown_of (slot.table_is_bad.ensures i) (keyless (slot.fields_or_none.ensures i)) a.number)
+    ∙ (λ i. shown_of (c.table_is_bad.ensures i) (keyless (c.fields_or_none.ensures i)) a.number)
     ∙ shown-seen _ a.number _ _ (slot-there a.table a.number)

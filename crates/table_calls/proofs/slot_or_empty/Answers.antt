@@ -6,13 +6,11 @@ use Rattle.table_calls.proofs.slot_or_empty.Goals as goal
 
 pub returns-then-not-is_slot_number : goal.returns-then-not-is_slot_number
 returns-then-not-is_slot_number c =
-    let n = c in
-    rw (sym n.is_slot_number.ensures ∙ n.if-not-is_slot_number.true) c.empty_slot.ensures
+    rw (sym c.is_slot_number.ensures ∙ c.if-not-is_slot_number.true) c.empty_slot.ensures
 
 pub returns : goal.returns
 returns c =
-    let n = c in
-    rw (sym n.is_slot_number.ensures ∙ n.if-not-is_slot_number.false) c.slot_at.ensures
+    rw (sym c.is_slot_number.ensures ∙ c.if-not-is_slot_number.false) c.slot_at.ensures
 
 pub slot_at-requires : goal.slot_at-requires
 slot_at-requires c = sym c.is_slot_number.ensures ∙ c.if-not-is_slot_number.false

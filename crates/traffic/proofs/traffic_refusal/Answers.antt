@@ -6,5 +6,4 @@ use Rattle.traffic.proofs.traffic_refusal.Goals as goal
 pub returns : goal.returns
 unfolding traffic_refusal_of
 returns c =
-    let span = c in
-    rw (c.refuse.ensures, span.span_refusal.ensures, span.use_refusal-use_refusal.ensures)
+    rw (c.refuse.ensures, c.span_refusal.ensures, c.use_refusal-use_refusal.ensures)

@@ -6,11 +6,6 @@ use Rattle.traffic.proofs.use_refusal.Goals as goal
 pub returns : goal.returns
 unfolding use_refusal_of
 returns c =
-    let five = c in
-    let three = five in
-    let one = three in
-    let known = one in
-    let included = known in
-    rw (c.refuse-7.ensures, c.refuse-6.ensures, five.refuse-5.ensures, five.refuse-4.ensures)
-    (rw (three.refuse-3.ensures, three.refuse-2.ensures, one.refuse.ensures, one.on_side.ensures)
-    (rw (known.is_direction.ensures, known.sends_out_of_service-out_of_service.ensures, included.use_includes-not_in_use.ensures, included.slot_refusal-slot_refusal.ensures)))
+    rw (c.refuse-7.ensures, c.refuse-6.ensures, c.refuse-5.ensures, c.refuse-4.ensures)
+    (rw (c.refuse-3.ensures, c.refuse-2.ensures, c.refuse.ensures, c.on_side.ensures)
+    (rw (c.is_direction.ensures, c.sends_out_of_service-out_of_service.ensures, c.use_includes-not_in_use.ensures, c.slot_refusal-slot_refusal.ensures)))

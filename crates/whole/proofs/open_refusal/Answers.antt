@@ -6,5 +6,4 @@ use Rattle.whole.proofs.open_refusal.Goals as goal
 pub returns : goal.returns
 unfolding open_refusal_of
 returns c =
-    let room = c in
-    rw (c.refuse.ensures, room.room_refusal.ensures, room.use_refusal-use_refusal.ensures)
+    rw (c.refuse.ensures, c.room_refusal.ensures, c.use_refusal-use_refusal.ensures)

@@ -14,8 +14,7 @@ use Rattle.whole_work.proofs.cipher_pieces.Goals as goal
 
 pub returns-then-has_no_piece : goal.returns-then-has_no_piece
 returns-then-has_no_piece c =
-    let s = c in
-    let a = s.args in
+    let a = c.args in
     let none = sym c.has_no_piece.ensures ∙ c.if-has_no_piece.true in
     let blocks = none-blocks a.p none in (
       sym (none-ciphered a.p a.buf.now (keystream a.algorithm a.key a.iv) (λ q. omega (arith, c.slice_known-1.given q)) none),
@@ -25,26 +24,21 @@ returns-then-has_no_piece c =
 
 pub xor_runs-requires : goal.xor_runs-requires
 xor_runs-requires c =
-    let s = c in
-    let buf = s.args.buf.now in
+    let buf = c.args.buf.now in
     let first = c.run_of-first.ensures in
     let second = c.run_of-second.ensures in (
-      s.requires.0,
-      subst (Fits buf) (sym first) s.requires.1,
-      subst (Fits buf) (sym second) s.requires.2,
-      subst (λ (p : Run). Later p c.run_of-second.result) (sym first) (subst (Later (run_of s.args.p.first)) (sym second) s.requires.3),
+      c.requires.0,
+      subst (Fits buf) (sym first) c.requires.1,
+      subst (Fits buf) (sym second) c.requires.2,
+      subst (λ (p : Run). Later p c.run_of-second.result) (sym first) (subst (Later (run_of c.args.p.first)) (sym second) c.requires.3),
     )
 
 pub returns : goal.returns
 returns c =
-    let ran = c in
-    let second = ran in
-    let first = second in
-    let else = first in
-    let a = else.args in
+    let a = c.args in
     let k = keystream a.algorithm a.key a.iv in
-    let some = some-blocks a.p (sym else.has_no_piece.ensures ∙ else.if-has_no_piece.false) in (
-      ran.xor_runs.ensures.0 ∙ (λ i. through_run (through_run a.buf.now k (first.run_of-first.ensures i)) k (second.run_of-second.ensures i)),
-      ran.xor_runs.ensures.2 ∙ (λ i. blocks_over (first.run_of-first.ensures i) (second.run_of-second.ensures i)),
-      ran.xor_runs.ensures.1 ∙ rw (ne_eqb (plan_blocks a.p) 0 (λ z. omega (arith, some))),
+    let some = some-blocks a.p (sym c.has_no_piece.ensures ∙ c.if-has_no_piece.false) in (
+      c.xor_runs.ensures.0 ∙ (λ i. through_run (through_run a.buf.now k (c.run_of-first.ensures i)) k (c.run_of-second.ensures i)),
+      c.xor_runs.ensures.2 ∙ (λ i. blocks_over (c.run_of-first.ensures i) (c.run_of-second.ensures i)),
+      c.xor_runs.ensures.1 ∙ rw (ne_eqb (plan_blocks a.p) 0 (λ z. omega (arith, some))),
     )

@@ -7,29 +7,22 @@ use Rattle.ciphering.specs.Span.{schedules_for, ciphered_as}
 use Rattle.whole.specs.Whole.{ciphered}
 use Rattle.whole_work.proofs.whole_of.Goals as goal
 
-abbrev start : goal.Else-refusal-ne-DONE → goal.Start
-start e = e
-
 pub returns-then-refusal-ne-DONE : goal.returns-then-refusal-ne-DONE
 returns-then-refusal-ne-DONE c = let no = ne_eqb _ 0 c.if-refusal-ne-DONE.true in (rw no, refl)
 
 pub iv_of-requires : goal.iv_of-requires
-iv_of-requires c = let e = c in ((start e).requires e.if-refusal-ne-DONE.false).0
+iv_of-requires c = (c.requires c.if-refusal-ne-DONE.false).0
 
 pub cipher_pieces-made-requires : goal.cipher_pieces-made-requires
 cipher_pieces-made-requires c =
-    let e = c in
-    let may = (start e).requires e.if-refusal-ne-DONE.false in
+    let may = c.requires c.if-refusal-ne-DONE.false in
     (may.1, may.2, may.3, may.4)
 
 pub returns : goal.returns
 returns c =
-    let ran = c in
-    let iv = ran in
-    let e = iv in
-    let a = (start e).args in
-    let made = ran.cipher_pieces-made.ensures in (
-      rw e.if-refusal-ne-DONE.false
-          (λ i. ciphered_as 0 ((made.0 ∙ (λ j. ciphered a.buf.now (keystream a.slot.fields.algorithm a.slot.key (iv.iv_of.ensures j)) a.p)) i) (made.1 i)),
+    let a = c.args in
+    let made = c.cipher_pieces-made.ensures in (
+      rw c.if-refusal-ne-DONE.false
+          (λ i. ciphered_as 0 ((made.0 ∙ (λ j. ciphered a.buf.now (keystream a.slot.fields.algorithm a.slot.key (c.iv_of.ensures j)) a.p)) i) (made.1 i)),
       made.2 ∙ rw made.1,
     )

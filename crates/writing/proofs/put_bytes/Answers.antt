@@ -15,8 +15,7 @@ loop-i-init c =
 
 pub loop-i-preserved : goal.loop-i-preserved
 loop-i-preserved c =
-    let loop = c in
-    (omega arith, simp length-set loop.loop-i.invariant.1, loop.loop-i.invariant.2 ∙ put-more _ _ _ _ c.loop-i-test.true)
+    (omega arith, simp length-set c.loop-i.invariant.1, c.loop-i.invariant.2 ∙ put-more _ _ _ _ c.loop-i-test.true)
 
 pub returns : goal.returns
 returns c = record { holds = sym (c.loop-i.invariant.2 ∙ put_all _ _ _ _ c.loop-i-test.false); ends = omega arith }

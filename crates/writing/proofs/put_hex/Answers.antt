@@ -14,13 +14,11 @@ loop-i-init c = (omega arith, put-none _ _)
 
 pub put_byte-next-requires : goal.put_byte-next-requires
 put_byte-next-requires c =
-    let test = c in
-    hex-room _ _ test.requires test.loop-i.invariant.1 _ test.loop-i-test.true
+    hex-room _ _ c.requires c.loop-i.invariant.1 _ c.loop-i-test.true
 
 pub loop-i-preserved : goal.loop-i-preserved
 loop-i-preserved c =
-    let test = c in
-    (omega arith, hex-next _ _ test.requires test.loop-i.invariant.1 test.loop-i-test.true c.put_byte-next.ensures)
+    (omega arith, hex-next _ _ c.requires c.loop-i.invariant.1 c.loop-i-test.true c.put_byte-next.ensures)
 
 pub returns : goal.returns
 returns c = hex-whole _ _ c.requires c.loop-i.invariant.1 c.loop-i-test.false

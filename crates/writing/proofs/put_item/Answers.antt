@@ -8,11 +8,8 @@ put_bytes-value-requires c = room-first _ c.requires
 
 pub put_digits-requires : goal.put_digits-requires
 put_digits-requires c =
-    let name = c in
-    room-then name.put_bytes-value.ensures name.requires
+    room-then c.put_bytes-value.ensures c.requires
 
 pub returns : goal.returns
 returns c =
-    let value = c in
-    let name = value in
-    put_then name.put_bytes-value.ensures value.put_digits.ensures
+    put_then c.put_bytes-value.ensures c.put_digits.ensures

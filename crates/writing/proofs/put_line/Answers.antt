@@ -7,14 +7,11 @@ use Rattle.writing.proofs.put_line.Goals as goal
 
 pub returns : goal.returns
 returns c =
-    let item = c in
-    let a = item.args in
-    ended-put a.name.now (digits a.n) _ item.put_item-end.ensures c.put_bytes.ensures
+    let a = c.args in
+    ended-put a.name.now (digits a.n) _ c.put_item-end.ensures c.put_bytes.ensures
 
 pub put_bytes-requires : goal.put_bytes-requires
-put_bytes-requires c = let item = c in
-    let s = item in
-    ended-then s.args.name.now (digits s.args.n) (lf ∷ []) item.put_item-end.ensures s.requires
+put_bytes-requires c = ended-then c.args.name.now (digits c.args.n) (lf ∷ []) c.put_item-end.ensures c.requires
 
 pub shape_of-buffer : goal.shape_of-buffer
 shape_of-buffer c = put-length (returns c)

@@ -8,11 +8,8 @@ put_bytes-value-requires c = room-first _ c.requires
 
 pub put_bytes-requires : goal.put_bytes-requires
 put_bytes-requires c =
-    let name = c in
-    room-then name.put_bytes-value.ensures name.requires
+    room-then c.put_bytes-value.ensures c.requires
 
 pub returns : goal.returns
 returns c =
-    let value = c in
-    let name = value in
-    put_then name.put_bytes-value.ensures value.put_bytes.ensures
+    put_then c.put_bytes-value.ensures c.put_bytes.ensures

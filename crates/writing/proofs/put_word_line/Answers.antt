@@ -7,14 +7,11 @@ use Rattle.writing.proofs.put_word_line.Goals as goal
 
 pub returns : goal.returns
 returns c =
-    let item = c in
-    let a = item.args in
-    ended-put a.name.now a.word _ item.put_word_item-end.ensures c.put_bytes.ensures
+    let a = c.args in
+    ended-put a.name.now a.word _ c.put_word_item-end.ensures c.put_bytes.ensures
 
 pub put_bytes-requires : goal.put_bytes-requires
-put_bytes-requires c = let item = c in
-    let s = item in
-    ended-then s.args.name.now s.args.word (lf ∷ []) item.put_word_item-end.ensures s.requires
+put_bytes-requires c = ended-then c.args.name.now c.args.word (lf ∷ []) c.put_word_item-end.ensures c.requires
 
 pub shape_of-buffer : goal.shape_of-buffer
 shape_of-buffer c = put-length (returns c)

@@ -7,8 +7,7 @@ use Rattle.card.proofs.record.card_record_write.Goals as goal
 
 pub returns : goal.returns
 returns c =
-    let given = c in
-    let at = given.args in
+    let at = c.args in
     let e = c.write_record-w.ensures in
     (λ i. written_as (e.0 i).refusal (e.0 i).length (e.1 i))
-    ∙ ap (λ (a : Asked). written_out at.number a at.key.now at.buf.now) given.asked_for-asked.ensures
+    ∙ ap (λ (a : Asked). written_out at.number a at.key.now at.buf.now) c.asked_for-asked.ensures

@@ -21,14 +21,13 @@ read_bytes-requires c =
 
 -- the buffer holds the bytes of the case
 
-read : (c : goal.After-read_bytes) → c.read_bytes.new.buf ≡ (case_of c.args.line.now).buffer
-unfolding case_of
-read c = c.read_bytes.ensures ∙ ap bytes_of c.after_spaces.ensures
-
 pub cipher_from-requires : goal.cipher_from-requires
 unfolding case_of
 cipher_from-requires c =
-    let size = ap length (read c) in
+    let read : c.read_bytes.new.buf ≡ (case_of c.args.line.now).buffer =
+    c.read_bytes.ensures ∙ ap bytes_of c.after_spaces.ensures
+    in
+    let size = ap length read in
     let span = (passed c.requires.0).span in
     let start = c.value-start.ensures in
     let bits = c.value-bits.ensures in
@@ -38,10 +37,13 @@ cipher_from-requires c =
 pub returns : goal.returns
 unfolding ciphered_case case_of
 returns c =
+    let read : c.read_bytes.new.buf ≡ (case_of c.args.line.now).buffer =
+    c.read_bytes.ensures ∙ ap bytes_of c.after_spaces.ensures
+    in
     c.cipher_from.ensures.0
     ∙ (λ i.
     xored
-    (read c i)
+    (read i)
     (keystream (c.value-algorithm.ensures i) (c.key_of-ck.ensures i) (c.iv_of-iv.ensures i))
     (c.value-start.ensures i)
     (c.value-skip.ensures i)

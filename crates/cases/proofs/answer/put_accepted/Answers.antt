@@ -17,12 +17,10 @@ put_buffer-requires c =
 
 -- the values are those of the case
 
-made : (c : goal.After-iv_of)
-    → mode_text c.value.result c.key_of.result c.iv_of.result ++ buffer_text (case_of c.args.line.now)
-    ≡ accepted_text (case_of c.args.line.now)
-unfolding accepted_text case_of
-made c =
-    λ i. mode_text (c.value.ensures i) (c.key_of.ensures i) (c.iv_of.ensures i) ++ buffer_text (case_of c.args.line.now)
-
 pub returns : goal.returns
-returns c = put_as (made c) (put_then c.put_mode-at.ensures c.put_buffer.ensures)
+unfolding accepted_text case_of
+returns c =
+    let made : mode_text c.value.result c.key_of.result c.iv_of.result ++ buffer_text (case_of c.args.line.now) ≡ accepted_text (case_of c.args.line.now) =
+    λ i. mode_text (c.value.ensures i) (c.key_of.ensures i) (c.iv_of.ensures i) ++ buffer_text (case_of c.args.line.now)
+    in
+    put_as made (put_then c.put_mode-at.ensures c.put_buffer.ensures)

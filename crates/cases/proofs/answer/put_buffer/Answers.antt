@@ -8,17 +8,24 @@ use borrow.Author.Rules.{rules}
 use Rattle.case_reader.proofs.Passed.{buffer-small}
 use Rattle.cases.proofs.answer.put_buffer.Goals as goal
 
-inside : (c : goal.After-buffer_size-n) → c.buffer_size-n.result ≤ length c.longest-work.result
-inside c = omega (arith, c.buffer_size-n.ensures, c.longest-work.ensures, buffer-small c.requires.0)
-
 pub slice_bounds-work-end : goal.slice_bounds-work-end
-slice_bounds-work-end c = inside c
+slice_bounds-work-end c =
+    let inside : c.buffer_size-n.result ≤ length c.longest-work.result =
+    omega (arith, c.buffer_size-n.ensures, c.longest-work.ensures, buffer-small c.requires.0)
+    in
+    inside
 
 pub slice_bounds-put_ciphered-end : goal.slice_bounds-put_ciphered-end
-slice_bounds-put_ciphered-end c = sym (length-take-le _ _ (inside c))
+slice_bounds-put_ciphered-end c =
+    let inside : c.buffer_size-n.result ≤ length c.longest-work.result =
+    omega (arith, c.buffer_size-n.ensures, c.longest-work.ensures, buffer-small c.requires.0)
+    in
+    sym (length-take-le _ _ inside)
 
 pub put_ciphered-requires : goal.put_ciphered-requires
 put_ciphered-requires c =
-    let size = c in
-    let pre = size.requires in
-    (pre.0, length-take-le _ _ (inside size) ∙ size.buffer_size-n.ensures, pre.1)
+    let inside : c.buffer_size-n.result ≤ length c.longest-work.result =
+    omega (arith, c.buffer_size-n.ensures, c.longest-work.ensures, buffer-small c.requires.0)
+    in
+    let pre = c.requires in
+    (pre.0, length-take-le _ _ inside ∙ c.buffer_size-n.ensures, pre.1)

@@ -11,17 +11,26 @@ use Rattle.cases.proofs.answer.put_ciphered.Goals as goal
 
 -- the buffer is the ciphered one
 
-made : (c : goal.After-cipher) → buffer_text (case_of c.args.line.now) ≡ hex_text c.cipher.new.buf ++ (lf ∷ [])
-made c = ap (λ (l : List ℕ). hex_text l ++ (lf ∷ [])) (sym c.cipher.ensures)
-
 pub put_hex-end-requires : goal.put_hex-end-requires
-put_hex-end-requires c = let done = c in room-first _ (room_as (made done) done.requires.2)
+put_hex-end-requires c =
+    let made : buffer_text (case_of c.args.line.now) ≡ hex_text c.cipher.new.buf ++ (lf ∷ []) =
+    ap (λ (l : List ℕ). hex_text l ++ (lf ∷ [])) (sym c.cipher.ensures)
+    in
+    room-first _ (room_as made c.requires.2)
 
 pub put_bytes-requires : goal.put_bytes-requires
-put_bytes-requires c = let done = c in room-then c.put_hex-end.ensures (room_as (made done) done.requires.2)
+put_bytes-requires c =
+    let made : buffer_text (case_of c.args.line.now) ≡ hex_text c.cipher.new.buf ++ (lf ∷ []) =
+    ap (λ (l : List ℕ). hex_text l ++ (lf ∷ [])) (sym c.cipher.ensures)
+    in
+    room-then c.put_hex-end.ensures (room_as made c.requires.2)
 
 pub returns : goal.returns
-returns c = put_as (sym (made c)) (put_then c.put_hex-end.ensures c.put_bytes.ensures)
+returns c =
+    let made : buffer_text (case_of c.args.line.now) ≡ hex_text c.cipher.new.buf ++ (lf ∷ []) =
+    ap (λ (l : List ℕ). hex_text l ++ (lf ∷ [])) (sym c.cipher.ensures)
+    in
+    put_as (sym made) (put_then c.put_hex-end.ensures c.put_bytes.ensures)
 
 pub shape_of-out : goal.shape_of-out
 shape_of-out c = put-length (returns c)

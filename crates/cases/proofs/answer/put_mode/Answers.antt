@@ -18,15 +18,12 @@ put_value-requires c =
 
 -- the three values are those of the definition
 
-made : (c : goal.After-mode_of-mode)
-    → value_text c.mixed_value-mixed.result ++ (value_text c.Mode-of.result.key ++ value_text c.Mode-of.result.value)
-    ≡ mode_text c.args.algorithm c.args.ck c.args.iv
+pub returns : goal.returns
 unfolding mode_text
-made c =
+returns c =
+    let made : value_text c.mixed_value-mixed.result ++ (value_text c.Mode-of.result.key ++ value_text c.Mode-of.result.value) ≡ mode_text c.args.algorithm c.args.ck c.args.iv =
     let mode = c.Mode-of.ensures in
     λ i. value_text (c.mixed_value-mixed.ensures i) ++ (value_text (mode i).key ++ value_text (mode i).value)
-
-pub returns : goal.returns
-returns c =
-    put_as (made c)
+    in
+    put_as made
     (put_then c.put_value-key_at.ensures.1 (put_then c.put_value-value_at.ensures.1 c.put_value.ensures.1))

@@ -9,22 +9,33 @@ use Rattle.cases.specs.Answer.{value_text}
 use Rattle.cases.proofs.Texts.{value-length}
 use Rattle.cases.proofs.answer.put_value.Goals as goal
 
-long : (c : goal.Start) → length (value_text c.args.bytes) ≡ 49
-long c = value-length c.args.bytes c.well_formed.1.1.0.1.0.1
-
-room : (c : goal.Start) → Room c.args.out.now c.args.at (value_text c.args.bytes)
-room c = record { fits = omega (arith, long c, c.requires) }
-
 pub put_hex-end-requires : goal.put_hex-end-requires
-put_hex-end-requires c = room-first _ (room c)
+put_hex-end-requires c =
+    let long : length (value_text c.args.bytes) ≡ 49 =
+    value-length c.args.bytes c.well_formed.1.1.0.1.0.1
+    in
+    let room : Room c.args.out.now c.args.at (value_text c.args.bytes) =
+    record { fits = omega (arith, long, c.requires) }
+    in
+    room-first _ room
 
 pub put_bytes-requires : goal.put_bytes-requires
-put_bytes-requires c = room-then c.put_hex-end.ensures (room c)
+put_bytes-requires c =
+    let long : length (value_text c.args.bytes) ≡ 49 =
+    value-length c.args.bytes c.well_formed.1.1.0.1.0.1
+    in
+    let room : Room c.args.out.now c.args.at (value_text c.args.bytes) =
+    record { fits = omega (arith, long, c.requires) }
+    in
+    room-then c.put_hex-end.ensures room
 
 pub returns : goal.returns
 returns c =
+    let long : length (value_text c.args.bytes) ≡ 49 =
+    value-length c.args.bytes c.well_formed.1.1.0.1.0.1
+    in
     let put = put_then c.put_hex-end.ensures c.put_bytes.ensures in
-    (omega (arith, put.ends, long c), put)
+    (omega (arith, put.ends, long), put)
 
 pub shape_of-out : goal.shape_of-out
 shape_of-out c = put-length (returns c).1

@@ -16,21 +16,16 @@ returns-then-n-eq0 c = rw (le-ltb _ _ c.if-size-gt-LONGEST_BUFFER.false, eq-eqb 
 pub returns-then-sum_above : goal.returns-then-sum_above
 unfolding span_refusal
 returns-then-sum_above c =
-    let some = c in
-    rw (le-ltb _ _ some.if-size-gt-LONGEST_BUFFER.false, ne_eqb _ 0 some.if-n-eq0.false, sym c.sum_above.ensures ∙ c.if-sum_above.true)
+    rw (le-ltb _ _ c.if-size-gt-LONGEST_BUFFER.false, ne_eqb _ 0 c.if-n-eq0.false, sym c.sum_above.ensures ∙ c.if-sum_above.true)
 
 pub returns-then-sum_above-2 : goal.returns-then-sum_above-2
 unfolding span_refusal
 returns-then-sum_above-2 c =
-    let short = c in
-    let some = short in
     rw
-    (le-ltb _ _ some.if-size-gt-LONGEST_BUFFER.false, ne_eqb _ 0 some.if-n-eq0.false, sym short.sum_above.ensures ∙ short.if-sum_above.false, sym c.sum_above-2.ensures ∙ c.if-sum_above-2.true)
+    (le-ltb _ _ c.if-size-gt-LONGEST_BUFFER.false, ne_eqb _ 0 c.if-n-eq0.false, sym c.sum_above.ensures ∙ c.if-sum_above.false, sym c.sum_above-2.ensures ∙ c.if-sum_above-2.true)
 
 pub returns : goal.returns
 unfolding span_refusal
 returns c =
-    let short = c in
-    let some = short in
     rw
-    (le-ltb _ _ some.if-size-gt-LONGEST_BUFFER.false, ne_eqb _ 0 some.if-n-eq0.false, sym short.sum_above.ensures ∙ short.if-sum_above.false, sym c.sum_above-2.ensures ∙ c.if-sum_above-2.false)
+    (le-ltb _ _ c.if-size-gt-LONGEST_BUFFER.false, ne_eqb _ 0 c.if-n-eq0.false, sym c.sum_above.ensures ∙ c.if-sum_above.false, sym c.sum_above-2.ensures ∙ c.if-sum_above-2.false)

@@ -11,13 +11,12 @@ use Rattle.ciphering.proofs.xor.cipher_from.Goals as goal
 
 pub returns : goal.returns
 returns c =
-    let done = c in
-    let a = done.args in
+    let a = c.args in
     let p = a.run in
     let k = keystream a.algorithm a.ck a.iv in
     let start : 8 * (p.start / 8) + p.start % 8 ≡ p.start = omega arith in
-    let made = done.xor_keystream.ensures in (
-      tail-back a.buf.now done.xor_keystream.new.buf k (p.start / 8) (p.start % 8) p.skip p.n (stream-lt _) (omega arith)
+    let made = c.xor_keystream.ensures in (
+      tail-back a.buf.now c.xor_keystream.new.buf k (p.start / 8) (p.start % 8) p.skip p.n (stream-lt _) (omega arith)
           made.0 (λ q. omega (arith, c.slice_known-2-1.given q))
           ∙ ap (λ (m : ℕ). xored a.buf.now k m p.skip p.n) start,
       made.1,

@@ -11,21 +11,21 @@ use Rattle.conversion_sheet.proofs.input.read_before.Goals as goal
 
 -- the name is read from the front
 
-named : (c : goal.After-read_literal-name)
-    → c.read_literal-name.result.good ≡ (answer (onward (good_to 0 0) (literal (ascii "before=")) c.args.s.now)).good
-named c =
-    ap (λ (r : Reading). r.good) c.read_literal-name.ensures
-    ∙ ap (λ (r : Reading). (answer (onward r (literal (ascii "before=")) c.args.s.now)).good) c.good_to.ensures
-
 pub returns-then-not-name : goal.returns-then-not-name
 unfolding before_read
-returns-then-not-name c = rw (sym (named c) ∙ c.if-not-name.true) c.not_read.ensures
+returns-then-not-name c =
+    let named : c.read_literal-name.result.good ≡ (answer (onward (good_to 0 0) (literal (ascii "before=")) c.args.s.now)).good =
+    ap (λ (r : Reading). r.good) c.read_literal-name.ensures
+    ∙ ap (λ (r : Reading). (answer (onward r (literal (ascii "before=")) c.args.s.now)).good) c.good_to.ensures
+    in
+    rw (sym named ∙ c.if-not-name.true) c.not_read.ensures
 
 pub returns : goal.returns
 unfolding before_read
 returns c =
-    let third = c in
-    let second = third in
-    let first = second in
-    rw (sym (named first) ∙ first.if-not-name.false)
-    (c.spaced_number.ensures ∙ (λ i. spaced_number (first.byte_at.ensures i) (second.byte_at-2.ensures i) (third.byte_at-3.ensures i)))
+    let named : c.read_literal-name.result.good ≡ (answer (onward (good_to 0 0) (literal (ascii "before=")) c.args.s.now)).good =
+    ap (λ (r : Reading). r.good) c.read_literal-name.ensures
+    ∙ ap (λ (r : Reading). (answer (onward r (literal (ascii "before=")) c.args.s.now)).good) c.good_to.ensures
+    in
+    rw (sym named ∙ c.if-not-name.false)
+    (c.spaced_number.ensures ∙ (λ i. spaced_number (c.byte_at.ensures i) (c.byte_at-2.ensures i) (c.byte_at-3.ensures i)))

@@ -16,15 +16,13 @@ loop-i-init c = (search rules, omega arith)
 
 pub returns-then-ends : goal.returns-then-ends
 returns-then-ends c =
-    let test = c in
-    let loop = test.loop-i in
-    (sym (loop.invariant.1 ∙ empty-here _ loop.i _ test.loop-i-test.true c.if-starts.true (eqb-true _ 10 c.if-ends.true)), loop.invariant.0)
+    let loop = c.loop-i in
+    (sym (loop.invariant.1 ∙ empty-here _ loop.i _ c.loop-i-test.true c.if-starts.true (eqb-true _ 10 c.if-ends.true)), loop.invariant.0)
 
 pub loop-i-preserved : goal.loop-i-preserved
 loop-i-preserved c =
-    let test = c in
-    let loop = test.loop-i in
-    (search rules, loop.invariant.1 ∙ empty-later _ loop.i _ test.loop-i-test.true (⊎_elim (λ w. rw w.0.taken w.1.left) (λ w. rw w.left) c.if-starts.branch))
+    let loop = c.loop-i in
+    (search rules, loop.invariant.1 ∙ empty-later _ loop.i _ c.loop-i-test.true (⊎_elim (λ w. rw w.0.taken w.1.left) (λ w. rw w.left) c.if-starts.branch))
 
 pub returns : goal.returns
 returns c =

@@ -13,13 +13,11 @@ loop-i-init c = refl
 
 pub returns-then-hex_value-eq16 : goal.returns-then-hex_value-eq16
 returns-then-hex_value-eq16 c =
-    let test = c in
-    sym (test.loop-i.invariant ∙ all-no _ _ test.loop-i-test.true (no_digit _ _ c.hex_value.ensures c.if-hex_value-eq16.true))
+    sym (c.loop-i.invariant ∙ all-no _ _ c.loop-i-test.true (no_digit _ _ c.hex_value.ensures c.if-hex_value-eq16.true))
 
 pub loop-i-preserved : goal.loop-i-preserved
 loop-i-preserved c =
-    let test = c in
-    test.loop-i.invariant ∙ all_yes _ _ test.loop-i-test.true (a-digit _ _ c.hex_value.ensures c.if-hex_value-eq16.false).0
+    c.loop-i.invariant ∙ all_yes _ _ c.loop-i-test.true (a-digit _ _ c.hex_value.ensures c.if-hex_value-eq16.false).0
 
 pub returns : goal.returns
 returns c = sym (c.loop-i.invariant ∙ all_end _ _ c.loop-i-test.false)

@@ -12,37 +12,58 @@ use Rattle.line_values.proofs.bytes.read_bytes.Goals as goal
 
 -- both digits of a byte lie in the text
 
-inside : (c : goal.In-loop-i) → 2 * c.loop-i.i + 1 < length c.args.s.now
-inside c = let p = c.requires in omega (arith, even _ p.0, p.1)
-
 pub loop-i-init : goal.loop-i-init
 loop-i-init c = fill_none c.requires.1
 
 pub overflow_mul-i : goal.overflow_mul-i
-overflow_mul-i c = record { fits = omega (arith, inside c) }
+overflow_mul-i c =
+    let inside : 2 * c.loop-i.i + 1 < length c.args.s.now =
+    let p = c.requires in omega (arith, even _ p.0, p.1)
+    in
+    record { fits = omega (arith, inside) }
 
 pub bounds-s-i : goal.bounds-s-i
-bounds-s-i c = omega (arith, inside c)
+bounds-s-i c =
+    let inside : 2 * c.loop-i.i + 1 < length c.args.s.now =
+    let p = c.requires in omega (arith, even _ p.0, p.1)
+    in
+    omega (arith, inside)
 
 pub overflow_mul-i-in-loop-i : goal.overflow_mul-i-in-loop-i
-overflow_mul-i-in-loop-i c = record { fits = omega (arith, inside c) }
+overflow_mul-i-in-loop-i c =
+    let inside : 2 * c.loop-i.i + 1 < length c.args.s.now =
+    let p = c.requires in omega (arith, even _ p.0, p.1)
+    in
+    record { fits = omega (arith, inside) }
 
 pub overflow_add-i : goal.overflow_add-i
-overflow_add-i c = record { fits = omega (arith, inside c) }
+overflow_add-i c =
+    let inside : 2 * c.loop-i.i + 1 < length c.args.s.now =
+    let p = c.requires in omega (arith, even _ p.0, p.1)
+    in
+    record { fits = omega (arith, inside) }
 
 pub bounds-s-i-in-loop-i : goal.bounds-s-i-in-loop-i
-bounds-s-i-in-loop-i c = omega (arith, inside c)
+bounds-s-i-in-loop-i c =
+    let inside : 2 * c.loop-i.i + 1 < length c.args.s.now =
+    let p = c.requires in omega (arith, even _ p.0, p.1)
+    in
+    omega (arith, inside)
 
 pub byte_of-requires : goal.byte_of-requires
 byte_of-requires c =
-    let at = c in
-    let hex = digit_at _ at.requires.0 in
-    (hex (2 * at.loop-i.i) (omega (arith, inside at)), hex (2 * at.loop-i.i + 1) (inside at))
+    let inside : 2 * c.loop-i.i + 1 < length c.args.s.now =
+    let p = c.requires in omega (arith, even _ p.0, p.1)
+    in
+    let hex = digit_at _ c.requires.0 in
+    (hex (2 * c.loop-i.i) (omega (arith, inside)), hex (2 * c.loop-i.i + 1) inside)
 
 pub loop-i-preserved : goal.loop-i-preserved
 loop-i-preserved c =
-    let at = c in
-    fill_more at.loop-i.invariant (omega (arith, inside at)) _ c.byte_of.ensures
+    let inside : 2 * c.loop-i.i + 1 < length c.args.s.now =
+    let p = c.requires in omega (arith, even _ p.0, p.1)
+    in
+    fill_more c.loop-i.invariant (omega (arith, inside)) _ c.byte_of.ensures
 
 pub returns : goal.returns
 unfolding bytes_of

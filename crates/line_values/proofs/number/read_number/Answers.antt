@@ -16,65 +16,83 @@ use Rattle.line_values.proofs.number.read_number.Goals as goal
 pub returns-then-s-eq0 : goal.returns-then-s-eq0
 returns-then-s-eq0 c = c.no_number.ensures ∙ sym (first-none c.args.s.now c.if-s-eq0.true)
 
-some : (c : goal.Else-s-eq0) → 0 < length c.args.s.now
-some c = omega (arith, c.if-s-eq0.false)
-
 pub returns-then-not-may_begin : goal.returns-then-not-may_begin
 returns-then-not-may_begin c =
-    let rest = c in
+    let some : 0 < length c.args.s.now =
+    omega (arith, c.if-s-eq0.false)
+    in
     c.no_number-then-not-may_begin.ensures
-    ∙ sym (first-no rest.args.s.now (some rest) (sym c.may_begin.ensures ∙ c.if-not-may_begin.true))
-
-begins : (c : goal.Else-not-may_begin) → may_begin 0 largest (get_or c.args.s.now 0 0) ≡ true
-begins c = sym c.may_begin.ensures ∙ c.if-not-may_begin.false
+    ∙ sym (first-no c.args.s.now some (sym c.may_begin.ensures ∙ c.if-not-may_begin.true))
 
 pub overflow_sub-value : goal.overflow_sub-value
-overflow_sub-value c = let k = begin-is _ _ _ (begins c) in omega arith
+overflow_sub-value c =
+    let begins : may_begin 0 largest (get_or c.args.s.now 0 0) ≡ true =
+    sym c.may_begin.ensures ∙ c.if-not-may_begin.false
+    in
+    let k = begin-is _ _ _ begins in omega arith
 
 pub overflow_cast-value : goal.overflow_cast-value
 overflow_cast-value c =
-    let k = begin-is _ _ _ (begins c) in record { fits = omega arith }
+    let begins : may_begin 0 largest (get_or c.args.s.now 0 0) ≡ true =
+    sym c.may_begin.ensures ∙ c.if-not-may_begin.false
+    in
+    let k = begin-is _ _ _ begins in record { fits = omega arith }
 
 pub loop-i-init : goal.loop-i-init
 loop-i-init c =
-    let rest = c in
-    (omega (arith, some rest), first-yes rest.args.s.now (some rest) (begins c))
+    let some : 0 < length c.args.s.now =
+    omega (arith, c.if-s-eq0.false)
+    in
+    let begins : may_begin 0 largest (get_or c.args.s.now 0 0) ≡ true =
+    sym c.may_begin.ensures ∙ c.if-not-may_begin.false
+    in
+    (omega (arith, some), first-yes c.args.s.now some begins)
 
 abbrev text : goal.At-loop-i → List ℕ
 text here = here.args.s.now
 
 pub returns-then-not-may_follow : goal.returns-then-not-may_follow
 returns-then-not-may_follow c =
-    let test = c in
     c.no_number-then-not-may_follow.ensures
-    ∙ sym (test.loop-i.invariant.1
-    ∙ number-no (text test) _ test.loop-i-test.true _ (sym c.may_follow.ensures ∙ c.if-not-may_follow.true))
+    ∙ sym (c.loop-i.invariant.1
+    ∙ number-no (text c) _ c.loop-i-test.true _ (sym c.may_follow.ensures ∙ c.if-not-may_follow.true))
 
 -- the byte may follow
 
-follows : (c : goal.Else-not-may_follow) → let here = c in
-    may_follow largest here.loop-i.value (get_or (text here) here.loop-i.i 0) ≡ true
-follows c = sym c.may_follow.ensures ∙ c.if-not-may_follow.false
-
 pub overflow_mul-value : goal.overflow_mul-value
 overflow_mul-value c =
-    let k = follow-is _ _ _ (follows c) in record { fits = omega arith }
+    let follows : may_follow largest c.loop-i.value (get_or (text c) c.loop-i.i 0) ≡ true =
+    sym c.may_follow.ensures ∙ c.if-not-may_follow.false
+    in
+    let k = follow-is _ _ _ follows in record { fits = omega arith }
 
 pub overflow_sub-value-in-loop-i : goal.overflow_sub-value-in-loop-i
-overflow_sub-value-in-loop-i c = let k = follow-is _ _ _ (follows c) in omega arith
+overflow_sub-value-in-loop-i c =
+    let follows : may_follow largest c.loop-i.value (get_or (text c) c.loop-i.i 0) ≡ true =
+    sym c.may_follow.ensures ∙ c.if-not-may_follow.false
+    in
+    let k = follow-is _ _ _ follows in omega arith
 
 pub overflow_cast-value-in-loop-i : goal.overflow_cast-value-in-loop-i
 overflow_cast-value-in-loop-i c =
-    let k = follow-is _ _ _ (follows c) in record { fits = omega arith }
+    let follows : may_follow largest c.loop-i.value (get_or (text c) c.loop-i.i 0) ≡ true =
+    sym c.may_follow.ensures ∙ c.if-not-may_follow.false
+    in
+    let k = follow-is _ _ _ follows in record { fits = omega arith }
 
 pub overflow_add-value : goal.overflow_add-value
 overflow_add-value c =
-    let k = follow-is _ _ _ (follows c) in record { fits = omega arith }
+    let follows : may_follow largest c.loop-i.value (get_or (text c) c.loop-i.i 0) ≡ true =
+    sym c.may_follow.ensures ∙ c.if-not-may_follow.false
+    in
+    let k = follow-is _ _ _ follows in record { fits = omega arith }
 
 pub loop-i-preserved : goal.loop-i-preserved
 loop-i-preserved c =
-    let test = c in
-    (omega (arith, test.loop-i-test.true), test.loop-i.invariant.1 ∙ number-digit (text test) _ test.loop-i-test.true _ (follows c))
+    let follows : may_follow largest c.loop-i.value (get_or (text c) c.loop-i.i 0) ≡ true =
+    sym c.may_follow.ensures ∙ c.if-not-may_follow.false
+    in
+    (omega (arith, c.loop-i-test.true), c.loop-i.invariant.1 ∙ number-digit (text c) _ c.loop-i-test.true _ follows)
 
 pub returns : goal.returns
 returns c =

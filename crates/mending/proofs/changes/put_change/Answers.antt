@@ -17,37 +17,38 @@ returns-then-not-made c =
 
 -- a line is put
 
-is_made : (c : goal.Else-not-made) → let args = c.args in
-    change_text args.made args.name.now ≡ ascii "changed=" ++ (args.name.now ++ (lf ∷ []))
-is_made c =
-    let args = c.args in
-    ap (λ (t : Bool). change_text t args.name.now) (c.if-not-made.false) ∙ change-made args.name.now
-
 pub put_bytes-value-requires : goal.put_bytes-value-requires
 put_bytes-value-requires c =
-    let test = c in
-    room-first _ (room_as (is_made test) test.requires)
+    let is_made : let args = c.args in change_text args.made args.name.now ≡ ascii "changed=" ++ (args.name.now ++ (lf ∷ [])) =
+    let args = c.args in
+    ap (λ (t : Bool). change_text t args.name.now) (c.if-not-made.false) ∙ change-made args.name.now
+    in
+    room-first _ (room_as is_made c.requires)
 
 pub put_bytes-end-requires : goal.put_bytes-end-requires
 put_bytes-end-requires c =
-    let first = c in
-    let test = first in
-    room-first _ (room-then first.put_bytes-value.ensures (room_as (is_made test) test.requires))
+    let is_made : let args = c.args in change_text args.made args.name.now ≡ ascii "changed=" ++ (args.name.now ++ (lf ∷ [])) =
+    let args = c.args in
+    ap (λ (t : Bool). change_text t args.name.now) (c.if-not-made.false) ∙ change-made args.name.now
+    in
+    room-first _ (room-then c.put_bytes-value.ensures (room_as is_made c.requires))
 
 pub put_bytes-requires : goal.put_bytes-requires
 put_bytes-requires c =
-    let name = c in
-    let first = name in
-    let test = first in
-    room-then name.put_bytes-end.ensures (room-then first.put_bytes-value.ensures (room_as (is_made test) test.requires))
+    let is_made : let args = c.args in change_text args.made args.name.now ≡ ascii "changed=" ++ (args.name.now ++ (lf ∷ [])) =
+    let args = c.args in
+    ap (λ (t : Bool). change_text t args.name.now) (c.if-not-made.false) ∙ change-made args.name.now
+    in
+    room-then c.put_bytes-end.ensures (room-then c.put_bytes-value.ensures (room_as is_made c.requires))
 
 pub returns : goal.returns
 returns c =
-    let end = c in
-    let name = end in
-    let first = name in
-    put_as (sym (is_made first))
-    (put_then first.put_bytes-value.ensures (put_then name.put_bytes-end.ensures end.put_bytes.ensures))
+    let is_made : let args = c.args in change_text args.made args.name.now ≡ ascii "changed=" ++ (args.name.now ++ (lf ∷ [])) =
+    let args = c.args in
+    ap (λ (t : Bool). change_text t args.name.now) (c.if-not-made.false) ∙ change-made args.name.now
+    in
+    put_as (sym is_made)
+    (put_then c.put_bytes-value.ensures (put_then c.put_bytes-end.ensures c.put_bytes.ensures))
 
 pub shape_of-buffer : goal.shape_of-buffer
 shape_of-buffer c = put-length (returns c)

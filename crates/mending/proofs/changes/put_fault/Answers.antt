@@ -8,16 +8,11 @@ use Rattle.mending.proofs.changes.put_fault.Goals as goal
 
 pub put_change-requires : goal.put_change-requires
 put_change-requires c =
-    let fault = c in
-    let start = fault in
-    room_as (ap (λ (t : Bool). change_text t start.args.name.now) (sym fault.any_fault-made.ensures)) start.requires
+    room_as (ap (λ (t : Bool). change_text t c.args.name.now) (sym c.any_fault-made.ensures)) c.requires
 
 pub returns : goal.returns
 returns c =
-    let call = c in
-    let fault = call in
-    let start = fault in
-    put_as (ap (λ (t : Bool). change_text t start.args.name.now) fault.any_fault-made.ensures) call.put_change.ensures
+    put_as (ap (λ (t : Bool). change_text t c.args.name.now) c.any_fault-made.ensures) c.put_change.ensures
 
 pub shape_of-buffer : goal.shape_of-buffer
 shape_of-buffer c = put-length (returns c)

@@ -8,16 +8,11 @@ use Rattle.mending.proofs.changes.put_order.Goals as goal
 
 pub put_change-requires : goal.put_change-requires
 put_change-requires c =
-    let order = c in
-    let start = order in
-    room_as (ap (λ (t : Bool). change_text (not t) start.args.name.now) (sym order.in_order-made.ensures)) start.requires
+    room_as (ap (λ (t : Bool). change_text (not t) c.args.name.now) (sym c.in_order-made.ensures)) c.requires
 
 pub returns : goal.returns
 returns c =
-    let call = c in
-    let order = call in
-    let start = order in
-    put_as (ap (λ (t : Bool). change_text (not t) start.args.name.now) order.in_order-made.ensures) call.put_change.ensures
+    put_as (ap (λ (t : Bool). change_text (not t) c.args.name.now) c.in_order-made.ensures) c.put_change.ensures
 
 pub shape_of-buffer : goal.shape_of-buffer
 shape_of-buffer c = put-length (returns c)

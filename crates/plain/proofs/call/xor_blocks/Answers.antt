@@ -21,23 +21,20 @@ loop-done-init c =
 
 pub loop-done-preserved : goal.loop-done-preserved
 loop-done-preserved c =
-    let turn = c in
-    let made = turn in
-    let at = made in
-    let a = at.args in
-    let done = at.loop-done.done in
-    let p = made.piece-p.result in
-    let piece = made.piece-p.ensures in
-    let inv = at.loop-done.invariant in
+    let a = c.args in
+    let done = c.loop-done.done in
+    let p = c.piece-p.result in
+    let piece = c.piece-p.ensures in
+    let inv = c.loop-done.invariant in
     let h : (a.skip + done) % 256 + p ≤ 256 = omega (arith, piece) in
     let some : 0 < p = omega (arith, piece) in (
       omega (arith, piece, inv.0),
-      ap length turn.xor_block.ensures ∙ length-xored _ _ _ _ _ ∙ inv.1,
-      turn.xor_block.ensures
-          ∙ (λ i. xored (inv.2 i) (bit_at (made.block-b.ensures i)) (sym (zero-add done) i) ((a.skip + done) % 256) p)
+      ap length c.xor_block.ensures ∙ length-xored _ _ _ _ _ ∙ inv.1,
+      c.xor_block.ensures
+          ∙ (λ i. xored (inv.2 i) (bit_at (c.block-b.ensures i)) (sym (zero-add done) i) ((a.skip + done) % 256) p)
           ∙ xored-stretch (block_of a.mode) a.buf.now 0 a.skip done p h,
       omega (arith, inv.3, some),
-      ap (λ (m : ℕ). m + 1) inv.4 ∙ one_more a.skip done p some h (λ e. inv.5 e made.loop-done-test.true),
+      ap (λ (m : ℕ). m + 1) inv.4 ∙ one_more a.skip done p some h (λ e. inv.5 e c.loop-done-test.true),
       λ e f. omega (arith, piece),
     )
 

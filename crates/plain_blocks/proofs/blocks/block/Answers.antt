@@ -9,6 +9,5 @@ use Rattle.plain_blocks.proofs.blocks.block.Goals as goal
 pub returns : goal.returns
 unfolding block_of plaintext
 returns c =
-    let made = c in
-    let m = made.args.mode in
-    c.cipher.ensures ∙ ap (cipher m.key) (c.plaintext.ensures ∙ ap (◌++◌ m.value) made.tag.ensures)
+    let m = c.args.mode in
+    c.cipher.ensures ∙ ap (cipher m.key) (c.plaintext.ensures ∙ ap (◌++◌ m.value) c.tag.ensures)

@@ -13,5 +13,4 @@ last j = omega arith
 
 pub returns : goal.returns
 returns c =
-    let second = c in
-    λ i. 84 ∷ 69 ∷ 65 ∷ second.args.digit ∷ second.low_byte.ensures i ∷ second.low_byte-2.ensures i ∷ c.low_byte-3.ensures i ∷ (c.low_byte-4.ensures ∙ last _) i ∷ []
+    λ i. 84 ∷ 69 ∷ 65 ∷ c.args.digit ∷ c.low_byte.ensures i ∷ c.low_byte-2.ensures i ∷ c.low_byte-3.ensures i ∷ (c.low_byte-4.ensures ∙ last _) i ∷ []

@@ -18,16 +18,13 @@ mixed-at iv k h = sym (tabulate-at (λ j. expanded_byte iv (20 + j)) 0 refl k h)
 
 pub loop-k-preserved : goal.loop-k-preserved
 loop-k-preserved c =
-    let low = c in
-    let asked = low in
-    let at = asked in
-    let a = at.args in
-    let k = at.loop-k.k in
-    let h : k < 24 = asked.loop-k-test.true in
-    let v : asked.byte-v.result ≡ get_or (mixed_value a.iv) k 0 = asked.byte-v.ensures ∙ mixed-at a.iv k h in
-    halves-more at.loop-k.invariant h _ _ _ _
-    (low.first-x.ensures ∙ ap (λ (m : ℕ). combined a.f.now (get_or a.ck k 0 / 16) (m / 16)) v)
-    (low.second-y.ensures ∙ ap (λ (m : ℕ). combined a.f.now (get_or a.ck k 0 % 16) (m % 16)) v)
+    let a = c.args in
+    let k = c.loop-k.k in
+    let h : k < 24 = c.loop-k-test.true in
+    let v : c.byte-v.result ≡ get_or (mixed_value a.iv) k 0 = c.byte-v.ensures ∙ mixed-at a.iv k h in
+    halves-more c.loop-k.invariant h _ _ _ _
+    (c.first-x.ensures ∙ ap (λ (m : ℕ). combined a.f.now (get_or a.ck k 0 / 16) (m / 16)) v)
+    (c.second-y.ensures ∙ ap (λ (m : ℕ). combined a.f.now (get_or a.ck k 0 % 16) (m % 16)) v)
     c.key_byte.ensures c.value_byte.ensures
 
 pub loop-k-init : goal.loop-k-init

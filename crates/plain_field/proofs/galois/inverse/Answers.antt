@@ -13,14 +13,13 @@ loop-init c = (search rules, refl)
 
 pub loop-preserved : goal.loop-preserved
 loop-preserved c =
-    let at = c in
-    let n = at.loop.counter in
+    let n = c.loop.counter in
     let h : n < 7 = c.loop-test.true in
     let p = c.times-power.ensures in (
       search rules,
-      (λ i. times_squares (7 - (n + 1)) (p i) ((c.times-product.ensures ∙ ap (times at.loop.product) p) i))
-          ∙ sym (square-more n at.loop.power at.loop.product h)
-          ∙ at.loop.invariant.1,
+      (λ i. times_squares (7 - (n + 1)) (p i) ((c.times-product.ensures ∙ ap (times c.loop.product) p) i))
+          ∙ sym (square-more n c.loop.power c.loop.product h)
+          ∙ c.loop.invariant.1,
     )
 
 pub returns : goal.returns

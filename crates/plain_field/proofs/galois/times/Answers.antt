@@ -14,13 +14,12 @@ loop-init c = (search rules, xor_zero_l _)
 
 pub loop-preserved : goal.loop-preserved
 loop-preserved c =
-    let at = c in
-    let n = at.loop.counter in
+    let n = c.loop.counter in
     let h : n < 8 = c.loop-test.true in (
       search rules,
-      (λ i. bit_xor (bit_xor at.loop.sum (c.term-sum.ensures i)) (sum_over (8 - (n + 1)) (at.loop.rest / 2) (c.xtime-shifted.ensures i)))
-          ∙ sym (sum_more n at.loop.sum at.loop.rest at.loop.shifted h)
-          ∙ at.loop.invariant.1,
+      (λ i. bit_xor (bit_xor c.loop.sum (c.term-sum.ensures i)) (sum_over (8 - (n + 1)) (c.loop.rest / 2) (c.xtime-shifted.ensures i)))
+          ∙ sym (sum_more n c.loop.sum c.loop.rest c.loop.shifted h)
+          ∙ c.loop.invariant.1,
     )
 
 pub returns : goal.returns

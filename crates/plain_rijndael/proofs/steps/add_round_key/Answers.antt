@@ -17,13 +17,12 @@ use Rattle.plain_rijndael.proofs.steps.add_round_key.Goals as goal
 
 pub loop-c-preserved : goal.loop-c-preserved
 loop-c-preserved c =
-    let at = c in
-    let a = at.args in
-    let r = at.loop-r.r in
-    let small = words-bytes a.w at.well_formed.1.0 in
+    let a = c.args in
+    let r = c.loop-r.r in
+    let small = words-bytes a.w c.well_formed.1.0 in
     let l = c.loop-c-test.true in
-    let h : 8 * a.n + at.loop-c.c < 120 = omega (arith, at.requires, l) in
-    in-row-more at.loop-c.invariant l _ (ap (bit_xor (cell a.s r at.loop-c.c)) (word_byte a.w small (8 * a.n + at.loop-c.c) r h at.loop-c.invariant.0))
+    let h : 8 * a.n + c.loop-c.c < 120 = omega (arith, c.requires, l) in
+    in-row-more c.loop-c.invariant l _ (ap (bit_xor (cell a.s r c.loop-c.c)) (word_byte a.w small (8 * a.n + c.loop-c.c) r h c.loop-c.invariant.0))
 
 pub loop-r-init : goal.loop-r-init
 unfolding add_round_key

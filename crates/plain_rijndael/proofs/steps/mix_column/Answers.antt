@@ -10,8 +10,7 @@ use Rattle.plain_rijndael.proofs.steps.mix_column.Goals as goal
 
 pub loop-c-preserved : goal.loop-c-preserved
 loop-c-preserved c =
-    let entered = c in
-    in-row-more entered.loop-c.invariant entered.loop-c-test.true _ c.mixed_byte.ensures
+    in-row-more c.loop-c.invariant c.loop-c-test.true _ c.mixed_byte.ensures
 
 pub loop-r-init : goal.loop-r-init
 unfolding mix_column

@@ -14,13 +14,12 @@ use Rattle.rounds.proofs.mixed.in_row.Goals as goal
 pub returns : goal.returns
 unfolding products
 returns c =
-    let start = c in
-    let b = start.args.b in
-    let r = start.args.r in
-    let table = start.requires.1 in
-    let low : r < 4 = start.requires.0 in
+    let b = c.args.b in
+    let r = c.args.r in
+    let table = c.requires.1 in
+    let low : r < 4 = c.requires.0 in
     let byte : b < 256 = search rules in
-    let entry : (k i : ℕ) → k < 8 → i ≡ 8 * b + k → get_or start.args.mixes.now i 0 ≡ share (s_box b) k =
+    let entry : (k i : ℕ) → k < 8 → i ≡ 8 * b + k → get_or c.args.mixes.now i 0 ≡ share (s_box b) k =
     λ k i h e. tabulate-at (λ i. share (s_box (i / 8)) (i % 8)) 0 table i (omega arith) ∙ share-at b k i h e in
     c.join_bytes.ensures
     ∙ (λ j.

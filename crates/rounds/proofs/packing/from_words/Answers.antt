@@ -12,8 +12,7 @@ loop-c-init c = columns-none zero-shape
 
 pub loop-c-preserved : goal.loop-c-preserved
 loop-c-preserved c =
-    let test = c in
-    columns-more test.loop-c.invariant test.loop-c-test.true _ _ _ _
+    columns-more c.loop-c.invariant c.loop-c-test.true _ _ _ _
     c.byte0.ensures c.byte1.ensures c.byte2.ensures c.byte3.ensures
 
 pub returns : goal.returns

@@ -11,9 +11,8 @@ loop-c-init c = pack-none refl
 
 pub loop-c-preserved : goal.loop-c-preserved
 loop-c-preserved c =
-    let test = c in
-    let a = test.args in
-    keyed-more a.w.now a.s test.loop-c.invariant test.loop-c-test.true _ c.column_word.ensures
+    let a = c.args in
+    keyed-more a.w.now a.s c.loop-c.invariant c.loop-c-test.true _ c.column_word.ensures
 
 pub returns : goal.returns
 unfolding add_round_key

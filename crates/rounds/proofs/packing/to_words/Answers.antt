@@ -12,8 +12,7 @@ loop-c-init c = pack-none refl
 
 pub loop-c-preserved : goal.loop-c-preserved
 loop-c-preserved c =
-    let test = c in
-    pack-more test.loop-c.invariant test.loop-c-test.true _ c.column_word.ensures
+    pack-more c.loop-c.invariant c.loop-c-test.true _ c.column_word.ensures
 
 pub returns : goal.returns
 returns c = pack-all _ c.loop-c.invariant c.loop-c-test.false ∙ own-cells (state-shape c.well_formed.0)

@@ -13,18 +13,15 @@ use Rattle.sheet.proofs.listing.count_filled.Goals as goal
 
 pub loop-i-preserved : goal.loop-i-preserved
 loop-i-preserved c =
-    let test = c in
-    let loop = test in
-    let table = loop.args.table in
-    let i = loop.loop-i.i in
+    let table = c.args.table in
+    let i = c.loop-i.i in
     let next = count_next table i (search rules) in
     let more : Bool → ℕ = λ t. pick t 1 0 + filled_count (drop (i + 1) table) in
     ⊎_elim
-    (λ w. let e = next ∙ ap more (sym test.is_filled.ensures ∙ w.0.taken) in (omega arith, omega (arith, w.1), omega (arith, w.1)))
-    (λ w. let e = next ∙ ap more (sym test.is_filled.ensures ∙ w.0.left) in (omega arith, omega (arith, w.1), omega (arith, w.1)))
+    (λ w. let e = next ∙ ap more (sym c.is_filled.ensures ∙ w.0.taken) in (omega arith, omega (arith, w.1), omega (arith, w.1)))
+    (λ w. let e = next ∙ ap more (sym c.is_filled.ensures ∙ w.0.left) in (omega arith, omega (arith, w.1), omega (arith, w.1)))
     c.if-is_filled.branch
 
 pub returns : goal.returns
 returns c =
-    let loop = c in
-    omega (arith, count_none loop.args.table loop.loop-i.i (search rules))
+    omega (arith, count_none c.args.table c.loop-i.i (search rules))

@@ -7,14 +7,10 @@ use Rattle.sheet.proofs.listing.put_loaded.Goals as goal
 
 pub returns-then-loaded-ne-DONE : goal.returns-then-loaded-ne-DONE
 returns-then-loaded-ne-DONE c =
-    let call = c in
-    let test = call in
-    let put = call.put_refusal.ensures in
-    (put.0, put_as (sym (text-refused test.args.loaded test.if-loaded-ne-DONE.true)) put.1)
+    let put = c.put_refusal.ensures in
+    (put.0, put_as (sym (text-refused c.args.loaded c.if-loaded-ne-DONE.true)) put.1)
 
 pub returns : goal.returns
 returns c =
-    let call = c in
-    let test = call in
-    let put = call.put_table.ensures in
-    (put.0, put_as (sym (text-loaded test.args.loaded test.if-loaded-ne-DONE.false)) put.1)
+    let put = c.put_table.ensures in
+    (put.0, put_as (sym (text-loaded c.args.loaded c.if-loaded-ne-DONE.false)) put.1)

@@ -12,8 +12,10 @@ use Rattle.sheet.proofs.listing.put_refusal.Goals as goal
 
 -- a number of 64 bits has at most 20 digits
 
-short : (c : goal.Start) → length (refusal_text c.args.refusal c.args.position c.args.line c.args.column) ≤ room
-short c =
+pub put_item-record-requires : goal.put_item-record-requires
+unfolding refusal_text
+put_item-record-requires c =
+    let short : length (refusal_text c.args.refusal c.args.position c.args.line c.args.column) ≤ room =
     let args = c.args in
     omega (
       arith,
@@ -23,44 +25,85 @@ short c =
       digits-fit 19 args.line (omega arith),
       digits-fit 19 args.column (omega arith),
     )
-
-whole : (c : goal.Start) → Room c.args.buffer.now 0 (refusal_text c.args.refusal c.args.position c.args.line c.args.column)
-whole c = record { fits = omega (arith, short c) }
-
-pub put_item-record-requires : goal.put_item-record-requires
-unfolding refusal_text
-put_item-record-requires c = next-room _ (whole c) left-all
+    in
+    let whole : Room c.args.buffer.now 0 (refusal_text c.args.refusal c.args.position c.args.line c.args.column) =
+    record { fits = omega (arith, short) }
+    in
+    next-room _ whole left-all
 
 pub put_item-place-requires : goal.put_item-place-requires
 unfolding refusal_text
 put_item-place-requires c =
-    let first = c in
-    next-room _ (whole first) (left-next left-all first.put_item-record.ensures)
+    let short : length (refusal_text c.args.refusal c.args.position c.args.line c.args.column) ≤ room =
+    let args = c.args in
+    omega (
+      arith,
+      refusal-length args.refusal args.position args.line args.column,
+      digits-fit 2 args.refusal (omega arith),
+      digits-fit 19 args.position (omega arith),
+      digits-fit 19 args.line (omega arith),
+      digits-fit 19 args.column (omega arith),
+    )
+    in
+    let whole : Room c.args.buffer.now 0 (refusal_text c.args.refusal c.args.position c.args.line c.args.column) =
+    record { fits = omega (arith, short) }
+    in
+    next-room _ whole (left-next left-all c.put_item-record.ensures)
 
 pub put_item-last-requires : goal.put_item-last-requires
 unfolding refusal_text
 put_item-last-requires c =
-    let second = c in
-    let first = second in
-    next-room _ (whole first) (left-next (left-next left-all first.put_item-record.ensures) second.put_item-place.ensures)
+    let short : length (refusal_text c.args.refusal c.args.position c.args.line c.args.column) ≤ room =
+    let args = c.args in
+    omega (
+      arith,
+      refusal-length args.refusal args.position args.line args.column,
+      digits-fit 2 args.refusal (omega arith),
+      digits-fit 19 args.position (omega arith),
+      digits-fit 19 args.line (omega arith),
+      digits-fit 19 args.column (omega arith),
+    )
+    in
+    let whole : Room c.args.buffer.now 0 (refusal_text c.args.refusal c.args.position c.args.line c.args.column) =
+    record { fits = omega (arith, short) }
+    in
+    next-room _ whole (left-next (left-next left-all c.put_item-record.ensures) c.put_item-place.ensures)
 
 pub put_line-requires : goal.put_line-requires
 unfolding refusal_text
 put_line-requires c =
-    let third = c in
-    let second = third in
-    let first = second in
-    left-room (whole first)
-    (left-next (left-next (left-next left-all first.put_item-record.ensures) second.put_item-place.ensures) third.put_item-last.ensures)
+    let short : length (refusal_text c.args.refusal c.args.position c.args.line c.args.column) ≤ room =
+    let args = c.args in
+    omega (
+      arith,
+      refusal-length args.refusal args.position args.line args.column,
+      digits-fit 2 args.refusal (omega arith),
+      digits-fit 19 args.position (omega arith),
+      digits-fit 19 args.line (omega arith),
+      digits-fit 19 args.column (omega arith),
+    )
+    in
+    let whole : Room c.args.buffer.now 0 (refusal_text c.args.refusal c.args.position c.args.line c.args.column) =
+    record { fits = omega (arith, short) }
+    in
+    left-room whole
+    (left-next (left-next (left-next left-all c.put_item-record.ensures) c.put_item-place.ensures) c.put_item-last.ensures)
 
 pub returns : goal.returns
 unfolding refusal_text
 returns c =
-    let fourth = c in
-    let third = fourth in
-    let second = third in
-    let first = second in
+    let short : length (refusal_text c.args.refusal c.args.position c.args.line c.args.column) ≤ room =
+    let args = c.args in
+    omega (
+      arith,
+      refusal-length args.refusal args.position args.line args.column,
+      digits-fit 2 args.refusal (omega arith),
+      digits-fit 19 args.position (omega arith),
+      digits-fit 19 args.line (omega arith),
+      digits-fit 19 args.column (omega arith),
+    )
+    in
     let put =
-    left-last (left-next (left-next (left-next left-all first.put_item-record.ensures) second.put_item-place.ensures) third.put_item-last.ensures)
-    fourth.put_line.ensures in
-    (omega (arith, put.ends, short first), put)
+    left-last (left-next (left-next (left-next left-all c.put_item-record.ensures) c.put_item-place.ensures) c.put_item-last.ensures)
+    c.put_line.ensures in
+    (omega (arith, put.ends, short), put)

@@ -8,15 +8,6 @@ use Rattle.writing.proofs.Puts.{put_as, put_then, put-length}
 use Rattle.sheet.proofs.Lines.{header-short, count-short, count-high, table-text}
 use Rattle.sheet.proofs.listing.put_table.Goals as goal
 
-abbrev counted : goal.After-put_line-slots → goal.After-count_filled-count
-counted c = c
-
-abbrev header : goal.After-put_slots-last → goal.After-put_line-slots
-header c = c
-
-size : (c : goal.Start) → 32 ≡ length c.args.table
-size c = sym c.well_formed.1.0.1.0.1
-
 few : (c : goal.After-count_filled-count) → c.count_filled-count.result ≤ 32
 few c = omega (arith, c.count_filled-count.ensures, count-high c.args.table, size c)
 
@@ -30,9 +21,8 @@ put_slots-last-requires c =
 
 pub put_line-requires : goal.put_line-requires
 put_line-requires c =
-    let slots = c in
-    let first = (header slots).put-line.ensures in
-    let second = slots.put_slots-last.ensures in
+    let first = c.put_line-slots.ensures in
+    let second = c.put_slots-last.ensures in
     record {
       fits =
           omega (
@@ -42,21 +32,23 @@ put_line-requires c =
             put-length first,
             second.0,
             put-length second.1,
-            count-short _ (few (counted (header slots))),
+            count-short _ (few (c)),
           );
     }
 
 pub returns : goal.returns
 returns c =
-    let last = c in
-    let slots = last in
-    let first = (header slots).put-line.ensures in
-    let second = slots.put_slots-last.ensures in
-    let third = last.put_line.ensures in
-    let count = counted (header slots) in (
-      omega (arith, header-short, first.ends, second.0, third.ends, count-short _ (few count)),
-      put_as (table-text _ (size count) count.count-filled.ensures) (put_then first (put_then second.1 third)),
+    let size : 32 ≡ length c.args.table =
+    sym c.well_formed.1.0.1.0.1
+    in
+    let first = c.put_line-slots.ensures in
+    let second = c.put_slots-last.ensures in
+    let third = c.put_line.ensures in (
+      omega (arith, header-short, first.ends, second.0, third.ends, count-short _ (few c)),
+      put_as (table-text _ size c.count_filled-count.ensures) (put_then first (put_then second.1 third)),
     )
 
 pub shape_of-buffer : goal.shape_of-buffer
 shape_of-buffer c = put-length (returns c).1
+
+-- UNPLACED helper few is used otherwise

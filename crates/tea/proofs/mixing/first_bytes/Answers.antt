@@ -14,10 +14,9 @@ loop-i-init c = (search rules, fill_none refl)
 
 pub loop-i-preserved : goal.loop-i-preserved
 loop-i-preserved c =
-    let at = c in
-    let iv = at.args.iv in
+    let iv = c.args.iv in
     let ten : length iv ≡ 10 = search rules in
-    (search rules, fill_more at.loop-i.invariant.1 (search rules) _ (sym (byte-first iv ten at.loop-i.i c.loop-i-test.true)))
+    (search rules, fill_more c.loop-i.invariant.1 (search rules) _ (sym (byte-first iv ten c.loop-i.i c.loop-i-test.true)))
 
 pub returns : goal.returns
 returns c = fill-to c.loop-i.invariant.1 (search rules)

@@ -23,13 +23,12 @@ loop-i-init c =
 
 pub loop-i-preserved : goal.loop-i-preserved
 loop-i-preserved c =
-    let at = c in
-    let b = at.loop-i.b in
-    let i = at.loop-i.i in
-    let inv = at.loop-i.invariant in
+    let b = c.loop-i.b in
+    let i = c.loop-i.i in
+    let inv = c.loop-i.invariant in
     let long : length b ≡ 44 = inv.1.0 in
     let lt : i < 44 = c.loop-i-test.true in
-    let x = bit_xor at.loop-i.two c.times_d7.result in (
+    let x = bit_xor c.loop-i.two c.times_d7.result in (
       search rules,
       (
         length-set b i x ∙ long,
@@ -37,7 +36,7 @@ loop-i-preserved c =
           last-is b i x (omega arith),
           (
             two-are (set b i x) i inv.0.0,
-            λ iv ten g. byte_more iv ten b i at.loop-i.two at.loop-i.last c.times_d7.result (inv.1.1.1.1 iv ten g) inv.0.0 lt inv.1.1.1.0 inv.1.1.0 c.times_d7.ensures,
+            λ iv ten g. byte_more iv ten b i c.loop-i.two c.loop-i.last c.times_d7.result (inv.1.1.1.1 iv ten g) inv.0.0 lt inv.1.1.1.0 inv.1.1.0 c.times_d7.ensures,
           ),
         ),
       ),
@@ -45,7 +44,6 @@ loop-i-preserved c =
 
 pub returns : goal.returns
 returns c =
-    let first = c in
-    let iv = first.args.iv in
+    let iv = c.args.iv in
     let ten : length iv ≡ 10 = search rules in
-    fill-all (c.loop-i.invariant.1.1.1.1 iv ten first.first_bytes-b.ensures) c.loop-i-test.false
+    fill-all (c.loop-i.invariant.1.1.1.1 iv ten c.first_bytes-b.ensures) c.loop-i-test.false

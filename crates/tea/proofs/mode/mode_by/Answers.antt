@@ -6,9 +6,7 @@ use Rattle.tea.proofs.mode.mode_by.Goals as goal
 
 pub loop-k-preserved : goal.loop-k-preserved
 loop-k-preserved c =
-    let low = c in
-    let turn = low in
-    halves-more turn.loop-k.invariant turn.loop-k-test.true _ _ _ _ low.combine_high-x.ensures low.combine_low-y.ensures c.high_halves.ensures c.low_halves.ensures
+    halves-more c.loop-k.invariant c.loop-k-test.true _ _ _ _ c.combine_high-x.ensures c.combine_low-y.ensures c.high_halves.ensures c.low_halves.ensures
 
 pub loop-k-init : goal.loop-k-init
 loop-k-init c = halves-none

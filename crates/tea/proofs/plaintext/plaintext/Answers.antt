@@ -40,10 +40,9 @@ loop-i-preserved c =
 
 pub returns : goal.returns
 returns c =
-    let made = c in
-    let long : length made.args.ivm ≡ 24 = search rules in
-    let at = made.loop-i.invariant in
-    let tail = behind made.args.ivm made.args.digit made.args.j long in
+    let long : length c.args.ivm ≡ 24 = search rules in
+    let at = c.loop-i.invariant in
+    let tail = behind c.args.ivm c.args.digit c.args.j long in
     let full =
     fill-at (fill-at (fill-at (fill-at (fill-at (fill-at (fill-at (fill-at at.1
     (omega arith) 24 (omega arith) _ (tail 0 24 _ refl refl))
