@@ -15,4 +15,4 @@ pub loop-i-preserved : goal.loop-i-preserved
 loop-i-preserved c = omega (arith, leading-on _ c.args.s.now _ c.loop-i-test.true c.if-s-i.false)
 
 pub returns : goal.returns
-returns-then-s-i c = omega (arith, leading_end c.args.b c.args.s.now _ c.loop-i-test.false)
+returns c = omega (arith, leading_end c.args.b c.args.s.now _ c.loop-i-test.false)

@@ -35,5 +35,5 @@ returns c =
     let l = c.loop-y in
     let y : l.y ≡ n / 8 = omega arith in
     let all : 8 * (n / 8) + n % 8 ≡ n = omega arith in
-    cleared_more old l.s (n / 8) (n % 8) c.first_off.result (omega arith) (omega arith) (rw y c l.invariant.2) c.first_off.ensures
+    cleared_more old l.s (n / 8) (n % 8) c.first_off.result (omega arith) (omega arith) (rw y at l.invariant.2) c.first_off.ensures
     ∙ ap (zeroed old 0) all
