@@ -53,7 +53,7 @@ pub returns-then-not-next : goal.returns-then-not-next
 returns-then-not-next c =
     c.not_gathered.ensures
     ∙ sym ((here c).loop.invariant.1
-    ∙ gather-stops _ (rest c) (some c) (ap (λ (g : Gathered). g.good) (sym (entered-is c)) ∙ c.if-not-next.true))
+    ∙ gather-stops _ (rest c) (some c) (ap (λ (g : Gathered). g.good) (sym (entered-is c)) ∙ not-true _ c.if-not-next.true))
 
 -- and some bytes were taken
 

@@ -16,7 +16,7 @@ returns-then-not-after c =
     c.read_line-after.ensures
     ∙ ap (λ (r : Reading). answer (onward r (line "after=" (decimal 1 32)) c.args.s.now)) c.read_before-before.ensures
     in
-    rw (ap (λ (r : Reading). r.good) (sym after_is) ∙ c.if-not-after.true)
+    rw (ap (λ (r : Reading). r.good) (sym after_is) ∙ not-true _ c.if-not-after.true)
 
 pub returns : goal.returns
 unfolding named_by after_read
@@ -27,4 +27,4 @@ returns c =
     in
     let after = after_is in
     let before = c.read_before-before.ensures in
-    rw (ap (λ (r : Reading). r.good) (sym after) ∙ c.if-not-after.false) (λ i. record { before = (before i).value; after = (after i).value })
+    rw (ap (λ (r : Reading). r.good) (sym after) ∙ not-false _ c.if-not-after.false) (λ i. record { before = (before i).value; after = (after i).value })

@@ -18,7 +18,7 @@ returns-then-not-name c =
     ap (λ (r : Reading). r.good) c.read_literal-name.ensures
     ∙ ap (λ (r : Reading). (answer (onward r (literal (ascii "before=")) c.args.s.now)).good) c.good_to.ensures
     in
-    rw (sym named ∙ c.if-not-name.true) c.not_read.ensures
+    rw (sym named ∙ not-true _ c.if-not-name.true) c.not_read.ensures
 
 pub returns : goal.returns
 unfolding before_read
@@ -27,5 +27,5 @@ returns c =
     ap (λ (r : Reading). r.good) c.read_literal-name.ensures
     ∙ ap (λ (r : Reading). (answer (onward r (literal (ascii "before=")) c.args.s.now)).good) c.good_to.ensures
     in
-    rw (sym named ∙ c.if-not-name.false)
+    rw (sym named ∙ not-false _ c.if-not-name.false)
     (c.spaced_number.ensures ∙ (λ i. spaced_number (c.byte_at.ensures i) (c.byte_at-2.ensures i) (c.byte_at-3.ensures i)))
