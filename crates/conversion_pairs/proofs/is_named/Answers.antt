@@ -1,5 +1,4 @@
 -- `pairs::is_named`: the pairs passed name the number or do not. Assumes nothing.
-use mathlib.Core.Logic.{⊎_elim}
 use mathlib.Core.Path.{◌≡◌, refl, sym, ap, ◌∙◌}
 use Prim.Native.Nat.{◌≤◌, ◌-◌}
 use native.Mathlib.Omega.{arith}
@@ -7,6 +6,7 @@ use borrow.Author.Rules.{rules}
 use Rattle.conversion_pairs.specs.Pairs.{named_on}
 use Rattle.conversion_pairs.proofs.Steps.{named_here, named-not}
 use Rattle.conversion_pairs.proofs.is_named.Goals as goal
+use Rattle.conversion_pairs.proofs.is_named.Goals.{then-number_on-n, else-number_on-n}
 
 pub loop-i-init : goal.loop-i-init
 unfolding named_on
@@ -16,10 +16,10 @@ pub loop-i-preserved : goal.loop-i-preserved
 loop-i-preserved c =
     let loop = c.loop-i in
     let args = c.args in
-    ⊎_elim
-    (λ w. (search rules, w.1 ∙ sym (named_here args.side args.pairs.now args.n loop.i (sym c.number_on.ensures ∙ w.0.taken))))
-    (λ w. (search rules, w.1 ∙ (loop.invariant.1 ∙ sym (named-not args.side args.pairs.now args.n loop.i (λ e. w.0.left (c.number_on.ensures ∙ e))))))
-    c.if-number_on-n.branch
+    elim c.if-number_on-n.branch [
+      then-number_on-n w ↦ (search rules, w.named-is ∙ sym (named_here args.side args.pairs.now args.n loop.i (sym c.number_on.ensures ∙ w.if-number_on-n.true)))
+    | else-number_on-n w ↦ (search rules, w.named-is ∙ (loop.invariant.1 ∙ sym (named-not args.side args.pairs.now args.n loop.i (λ e. w.if-number_on-n.false (c.number_on.ensures ∙ e)))))
+    ]
 
 pub returns : goal.returns
 returns c =

@@ -1,5 +1,4 @@
 -- `pairs::leaves_out`: one of the numbers passed is left out or none is. Assumes nothing.
-use mathlib.Core.Logic.{⊎_elim}
 use mathlib.Core.Path.{◌≡◌, refl, sym, ap, ◌∙◌}
 use Prim.Native.Nat.{◌≤◌, ◌-◌}
 use native.Mathlib.Omega.{arith}
@@ -7,6 +6,7 @@ use borrow.Author.Rules.{rules}
 use Rattle.conversion_pairs.specs.Pairs.{leaves_out}
 use Rattle.conversion_pairs.proofs.Steps.{out-here, out-not}
 use Rattle.conversion_pairs.proofs.leaves_out.Goals as goal
+use Rattle.conversion_pairs.proofs.leaves_out.Goals.{then-is_left_out, else-is_left_out}
 
 pub loop-i-init : goal.loop-i-init
 unfolding leaves_out
@@ -16,10 +16,10 @@ pub loop-i-preserved : goal.loop-i-preserved
 loop-i-preserved c =
     let loop = c.loop-i in
     let args = c.args in
-    ⊎_elim
-    (λ w. (search rules, w.1 ∙ sym (out-here args.after args.pairs.now loop.i (sym c.is_left_out.ensures ∙ w.0.taken))))
-    (λ w. (search rules, w.1 ∙ (loop.invariant.1 ∙ sym (out-not args.after args.pairs.now loop.i (sym c.is_left_out.ensures ∙ w.0.left)))))
-    c.if-is_left_out.branch
+    elim c.if-is_left_out.branch [
+      then-is_left_out w ↦ (search rules, w.out-is ∙ sym (out-here args.after args.pairs.now loop.i (sym c.is_left_out.ensures ∙ w.if-is_left_out.true)))
+    | else-is_left_out w ↦ (search rules, w.out-is ∙ (loop.invariant.1 ∙ sym (out-not args.after args.pairs.now loop.i (sym c.is_left_out.ensures ∙ w.if-is_left_out.false))))
+    ]
 
 pub returns : goal.returns
 returns c =

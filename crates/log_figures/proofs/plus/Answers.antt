@@ -6,7 +6,7 @@ use Rattle.log_figures.proofs.plus.Goals as goal
 
 pub returns-then-i-figures : goal.returns-then-i-figures
 unfolding plus
-returns-then-i-figures c = ap (set c.args.figures.now c.args.i) c.wrapping_add_u64.ensures
+returns-then-i-figures c = ap (set c.args.figures.now c.args.i) c.wrapping_add_u64.ensures.value
 
 pub returns-else-i-figures : goal.returns-else-i-figures
 unfolding plus

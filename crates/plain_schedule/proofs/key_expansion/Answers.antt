@@ -1,6 +1,5 @@
 -- `plain_schedule::key_expansion`: the words below i are right. Assumes nothing.
 use mathlib.Core.Path.{◌≡◌, refl, ◌∙◌}
-use mathlib.Core.Logic.{⊎_elim}
 use mathlib.Core.List.{List}
 use Prim.Native.Nat.{ℕ, ◌+◌, ◌-◌, ◌<◌, ◌≤◌}
 use native.Mathlib.Omega.{arith}
@@ -11,6 +10,7 @@ use Rattle.schedule.proofs.KeyWords.{word_first}
 use Rattle.plain_schedule.specs.Bytes.{word_of}
 use Rattle.plain_schedule.proofs.Words.{Expanded, expanded-more, expanded-next, expanded-all}
 use Rattle.plain_schedule.proofs.key_expansion.Goals as goal
+use Rattle.plain_schedule.proofs.key_expansion.Goals.{then-i-lt6, else-i-lt6}
 
 pub loop-i-init : goal.loop-i-init
 loop-i-init c = (search rules, (refl, λ k h. absurd (omega arith)))
@@ -26,10 +26,10 @@ loop-i-preserved c =
     let more : (v : List ℕ) → c.if-i-lt6.w ≡ set w i v → word_of v ≡ key_word key i → (length c.if-i-lt6.w ≡ 120) × Expanded key c.if-i-lt6.w (i + 1) =
     λ v e h. rw e (length-set w i v ∙ long, expanded-more key w i v l g h) in (
       search rules,
-      ⊎_elim
-          (λ b. more _ b.2 (b.1.ensures ∙ word_first key i b.0.taken))
-          (λ b. more _ b.2 (b.1.ensures ∙ expanded-next key w i b.0.left g))
-          c.if-i-lt6.branch,
+      elim c.if-i-lt6.branch [
+      then-i-lt6 b ↦ more _ b.w-is (b.1.ensures ∙ word_first key i b.if-i-lt6.true)
+    | else-i-lt6 b ↦ more _ b.w-is (b.1.ensures ∙ expanded-next key w i b.if-i-lt6.false g)
+    ],
     )
 
 pub returns : goal.returns
