@@ -27,9 +27,9 @@ loop-i-preserved c =
     λ v e h. rw e (length-set w i v ∙ long, expanded-more key w i v l g h) in (
       search rules,
       elim c.if-i-lt6.branch [
-      then-i-lt6 b ↦ more _ b.w-is (b.1.ensures ∙ word_first key i b.if-i-lt6.true)
-    | else-i-lt6 b ↦ more _ b.w-is (b.1.ensures ∙ expanded-next key w i b.if-i-lt6.false g)
-    ],
+        | then-i-lt6 b ↦ more _ b.w-is (b.key_word.ensures ∙ word_first key i b.if-i-lt6.true)
+        | else-i-lt6 b ↦ more _ b.w-is (b.next_word.ensures ∙ expanded-next key w i b.if-i-lt6.false g)
+      ],
     )
 
 pub returns : goal.returns
