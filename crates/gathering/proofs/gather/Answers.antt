@@ -6,9 +6,10 @@ use Prim.Native.Nat.{ℕ, ◌+◌, ◌-◌, ◌<◌, ◌≤◌}
 use native.Mathlib.Omega.{arith}
 use borrow.Author.Rules.{rules}
 use borrow.Author.Tests.{not-true, not-false}
-use lib.ListN.{length, drop, length-drop}
+use lib.ListN.{length, take, drop, length-drop}
 use lib.Seq.{take_all, drop-drop}
 use Rattle.refusals.specs.Numbers.{done}
+use Rattle.slots.specs.declared.Slot.{Slot}
 use Rattle.fields.specs.Fields.{is_slot_number}
 use Rattle.record_reader.specs.declared.RecordRead.{RecordRead}
 use Rattle.record_reader.specs.Record.{record_read}
@@ -22,77 +23,74 @@ pub loop-at-init : goal.loop-at-init
 unfolding gathered
 loop-at-init c = (search rules, ap (λ t. gather_on t c.args.text.now) (sym c.empty_table-table.ensures))
 
--- a record is read
+-- some bytes are left, a record is read of them, and is entered
 
-module _ (c : tie.After-read-record invariant-loop decreases-loop) where
-  abbrev here : tie.At-loop invariant-loop decreases-loop
-  here = c.before.before.before
+some : (text : List ℕ) (at : ℕ) → at < length text → 0 < length (drop at text)
+some text at h = simp length-drop (omega arith)
 
-  abbrev text : List ℕ
-  text = here.before.before.before.args.text.now
+read_is : (text : List ℕ) (at : ℕ) (r : RecordRead) → at < length text → r ≡ record_read (take (length text - at) (drop at text)) → r ≡ record_read (drop at text)
+read_is text at r h e = e ∙ ap record_read (take_all (length text - at) (drop at text) (simp length-drop (omega arith)))
 
-  abbrev rest : List ℕ
-  rest = drop here.loop.at text
-
-  some : 0 < length rest
-  some = simp length-drop (omega (arith, c.before.before.loop-test.true))
-
-  read_is : c.read-record.result ≡ record_read rest
-  read_is = c.read-record.ensures ∙ ap record_read (take_all (length text - here.loop.at) rest (simp length-drop (omega arith)))
-
-pub enter-next-requires : goal.enter-next-requires
-enter-next-requires c =
-    subst (λ (x : RecordRead). x.refusal ≡ done → is_slot_number x.number ≡ true) (sym (read_is c)) (read_number (rest c))
-
--- it is entered
-
-entered-is : (c : goal.After-enter-next) → c.enter-next.result ≡ entered (here c).loop.table (record_read (rest c))
-entered-is c = c.enter-next.ensures ∙ ap (entered (here c).loop.table) (read_is c)
-
-pub returns-then-not-next : goal.returns-then-not-next
-returns-then-not-next c =
-    c.not_gathered.ensures
-    ∙ sym ((here c).loop.invariant.1
-    ∙ gather-stops _ (rest c) (some c) (ap (λ (g : Gathered). g.good) (sym (entered-is c)) ∙ not-true _ c.if-not-next.true))
+entered_is : (table : List Slot) (rest : List ℕ) (r : RecordRead) (g : Gathered) → r ≡ record_read rest → g ≡ entered table r → g ≡ entered table (record_read rest)
+entered_is table rest r g e h = h ∙ ap (entered table) e
 
 -- and some bytes were taken
 
-module _ (c : tie.After-more invariant-loop decreases-loop) where
-  abbrev enter : tie.After-enter invariant-loop decreases-loop
-  enter = c.before.before.before
+onward : (text : List ℕ) (at : ℕ) (r : RecordRead) (table : List Slot)
+    → at < length text → r ≡ record_read (drop at text) → (entered table (record_read (drop at text))).good ≡ true
+    → (0 < r.used) × (at + r.used ≤ length text)
+onward text at r table h e good =
+    let t = taken (drop at text) (enters _ _ good).reads in
+    let used = ap (λ (x : RecordRead). x.used) e in
+    (omega (arith, used, t.some), omega (arith, used, t.within, length-drop at text))
 
-  abbrev read : tie.After-read-record invariant-loop decreases-loop
-  read = enter.before
+pub enter-next-requires : goal.enter-next-requires
+enter-next-requires c =
+    let read = read_is c.args.text.now c.loop-at.at _ c.loop-at-test.true c.read_record-read.ensures in
+    subst (λ (x : RecordRead). x.refusal ≡ done → is_slot_number x.number ≡ true) (sym read) (read_number (drop c.loop-at.at c.args.text.now))
 
-  good : (entered (here read).loop.table (record_read (rest read))).good ≡ true
-  good = ap (λ (g : Gathered). g.good) (sym (entered-is enter)) ∙ not-false _ c.before.if1.false
-
-  onward : (0 < read.read-record.result.used) × ((here read).loop.at + read.read-record.result.used ≤ length (text read))
-  onward =
-      let t = taken (rest read) (enters _ _ good).reads in
-      let used = ap (λ (x : RecordRead). x.used) (read_is read) in
-      (omega (arith, used, t.some), omega (arith, used, t.within, length-drop (here read).loop.at (text read)))
+pub returns-then-not-next : goal.returns-then-not-next
+returns-then-not-next c =
+    let text = c.args.text.now in
+    let at = c.loop-at.at in
+    let read = read_is text at _ c.loop-at-test.true c.read_record-read.ensures in
+    let enter = entered_is c.loop-at.table (drop at text) _ _ read c.enter-next.ensures in
+    c.not_gathered.ensures
+    ∙ sym (c.loop-at.invariant.1
+    ∙ gather-stops _ (drop at text) (some text at c.loop-at-test.true) (ap (λ (g : Gathered). g.good) (sym enter) ∙ not-true _ c.if-not-next.true))
 
 pub overflow_add-at : goal.overflow_add-at
-overflow_add-at c = let o = onward c in record { fits = omega (arith, (here (read c)).good.0.1) }
+overflow_add-at c =
+    let text = c.args.text.now in
+    let at = c.loop-at.at in
+    let read = read_is text at _ c.loop-at-test.true c.read_record-read.ensures in
+    let enter = entered_is c.loop-at.table (drop at text) _ _ read c.enter-next.ensures in
+    let o = onward text at _ c.loop-at.table c.loop-at-test.true read (ap (λ (g : Gathered). g.good) (sym enter) ∙ not-false _ c.if-not-next.false) in
+    record { fits = omega (arith, o.1, c.well_formed.0.1) }
 
 pub loop-at-smaller : goal.loop-at-smaller
-loop-at-smaller c = let o = onward c in omega arith
+loop-at-smaller c =
+    let text = c.args.text.now in
+    let at = c.loop-at.at in
+    let read = read_is text at _ c.loop-at-test.true c.read_record-read.ensures in
+    let enter = entered_is c.loop-at.table (drop at text) _ _ read c.enter-next.ensures in
+    let o = onward text at _ c.loop-at.table c.loop-at-test.true read (ap (λ (g : Gathered). g.good) (sym enter) ∙ not-false _ c.if-not-next.false) in
+    omega (arith, o.0, o.1)
 
 pub loop-at-preserved : goal.loop-at-preserved
 loop-at-preserved c =
-    let o = onward c in
-    let at = (here (read c)).loop.at in (
+    let text = c.args.text.now in
+    let at = c.loop-at.at in
+    let read = read_is text at _ c.loop-at-test.true c.read_record-read.ensures in
+    let enter = entered_is c.loop-at.table (drop at text) _ _ read c.enter-next.ensures in
+    let good = ap (λ (g : Gathered). g.good) (sym enter) ∙ not-false _ c.if-not-next.false in
+    let o = onward text at _ c.loop-at.table c.loop-at-test.true read good in (
       o.1,
-      (here (read c)).loop.inv.1
-          ∙ gather-next _ (rest (read c)) (some (read c)) (good c)
-          ∙ (λ i. gather_on (sym (entered-is (enter c)) i).table (drop (sym (read_is (read c)) i).used (rest (read c))))
-          ∙ ap (gather_on _) (drop-drop (read c).read-record.result.used at (text (read c))),
+      c.loop-at.invariant.1
+          ∙ gather-next _ (drop at text) (some text at c.loop-at-test.true) good
+          ∙ (λ i. gather_on (sym enter i).table (drop (sym read i).used (drop at text)))
+          ∙ ap (gather_on _) (drop-drop c.read_record-read.result.used at text),
     )
 
 pub returns : goal.returns
-returns c =
-    let loop = c.loop-at in
-    c.gathered_to.ensures ∙ sym (loop.invariant.1 ∙ gather-end _ _ (simp length-drop (omega arith)))
-
--- UNPLACED helper entered-is is used otherwise
+returns c = c.gathered_to.ensures ∙ sym (c.loop-at.invariant.1 ∙ gather-end _ _ (simp length-drop (omega arith)))

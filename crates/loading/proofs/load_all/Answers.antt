@@ -4,8 +4,10 @@ use mathlib.Core.List.{List}
 use Prim.Native.Nat.{ℕ, suc, ◌+◌, ◌-◌, ◌<◌, ◌≤◌}
 use native.Mathlib.Omega.{arith}
 use borrow.Author.Rules.{rules}
-use lib.ListN.{length, drop, length-drop}
+use lib.ListN.{length, take, drop, length-drop}
 use lib.Seq.{take_all, drop-drop}
+use Rattle.refusals.specs.Numbers.{done}
+use Rattle.slots.specs.declared.Slot.{Slot}
 use Rattle.record_reader.specs.declared.RecordRead.{RecordRead}
 use Rattle.record_reader.specs.Record.{record_read}
 use Rattle.loading.specs.Loading.{load_within, load_all}
@@ -21,111 +23,82 @@ loop-at-init c =
 
 -- a record is read, and something was there to read
 
-module _ (c : tie.After-struct-known invariant-loop decreases-loop) where
-  abbrev here : tie.At-loop invariant-loop decreases-loop
-  here = c.before.before.before.before
+some : (sheet : List ℕ) (at : ℕ) → at < length sheet → 0 < length (drop at sheet)
+some sheet at h = simp length-drop (omega arith)
 
-  abbrev sheet : List ℕ
-  sheet = here.before.before.before.args.sheet.now
+read_is : (sheet : List ℕ) (at : ℕ) (r : RecordRead) → at < length sheet → r ≡ record_read (take (length sheet - at) (drop at sheet)) → r ≡ record_read (drop at sheet)
+read_is sheet at r h e = e ∙ ap record_read (take_all (length sheet - at) (drop at sheet) (simp length-drop (omega arith)))
 
-  abbrev rest : List ℕ
-  rest = drop here.loop.at sheet
+whole : (sheet : List ℕ) (at position : ℕ) (table : List Slot)
+    → at < length sheet → position ≤ at + 1 → load_all sheet ≡ load_within (length sheet + 1 - position) table position (drop at sheet)
+    → load_all sheet ≡ load_within (suc (length sheet - position)) table position (drop at sheet)
+whole sheet at position table h p e =
+    let z : length sheet + 1 - position ≡ suc (length sheet - position) = omega arith in
+    e ∙ ap (λ (n : ℕ). load_within n table position (drop at sheet)) z
 
-  some : 0 < length rest
-  some = simp length-drop (omega (arith, c.before.before.before.loop-test.true))
+-- a record is loaded, some bytes were taken, and the place stays within the sheet
 
-  read_is : c.before.read-record.result ≡ record_read rest
-  read_is = c.before.read-record.ensures ∙ ap record_read (take_all (length sheet - here.loop.at) rest (simp length-drop (omega arith)))
-
-  abbrev left : ℕ
-  left = length sheet - here.loop.position
-
-  whole : load_all sheet ≡ load_within (suc left) here.loop.table here.loop.position rest
-  whole =
-      let loop = here.loop in
-      let z : length sheet + 1 - loop.position ≡ suc left = omega (arith, c.before.before.before.loop-test.true) in
-      loop.inv.3 ∙ ap (λ (n : ℕ). load_within n loop.table loop.position rest) z
+onward : (sheet : List ℕ) (at : ℕ) (r : RecordRead)
+    → at < length sheet → r ≡ record_read (drop at sheet) → r.refusal ≡ done → (0 < r.used) × (at + r.used ≤ length sheet)
+onward sheet at r h e good =
+    let t : Taken (drop at sheet) r.used =
+    subst (λ (x : RecordRead). Taken (drop at sheet) x.used) (sym e) (taken (drop at sheet) (ap (λ (x : RecordRead). x.refusal) (sym e) ∙ good))
+    in
+    (t.some, omega (arith, t.within, length-drop at sheet))
 
 pub returns-then-read-ne-DONE : goal.returns-then-read-ne-DONE
 returns-then-read-ne-DONE c =
-    c.refused.ensures ∙ sym (whole c ∙ text-refused (left c) _ _ (rest c) (some c) (read_is c) c.if-read-ne-DONE.true)
+    let sheet = c.args.sheet.now in
+    let l = c.loop-at in
+    let read = read_is sheet l.at _ c.loop-at-test.true c.read_record-read.ensures in
+    c.refused.ensures
+    ∙ sym (whole sheet l.at l.position l.table c.loop-at-test.true l.invariant.1 l.invariant.3
+    ∙ text-refused (length sheet - l.position) _ _ (drop l.at sheet) (some sheet l.at c.loop-at-test.true) read c.if-read-ne-DONE.true)
 
 pub returns-then-change-ne-DONE : goal.returns-then-change-ne-DONE
 returns-then-change-ne-DONE c =
+    let sheet = c.args.sheet.now in
+    let l = c.loop-at in
+    let read = read_is sheet l.at _ c.loop-at-test.true c.read_record-read.ensures in
     c.refused-then-change-ne-DONE.ensures
-    ∙ sym (whole c
-    ∙ load-refused (left c) (here c).loop.table _ (rest c) (some c) (read_is c) c.if-read-ne-DONE.false c.asked.ensures c.load-change.ensures c.if-change-ne-DONE.true)
-
--- a record is loaded, and some bytes were taken
-
-abbrev start : goal.After-struct_known-in-loop-at-2-1 → goal.Start
-start c = (here c)
-
--- the place moves on, and stays within the sheet
+    ∙ sym (whole sheet l.at l.position l.table c.loop-at-test.true l.invariant.1 l.invariant.3
+    ∙ load-refused (length sheet - l.position) l.table _ (drop l.at sheet) (some sheet l.at c.loop-at-test.true) read c.if-read-ne-DONE.false c.asked.ensures c.load-change.ensures c.if-change-ne-DONE.true)
 
 pub overflow_add-at : goal.overflow_add-at
 overflow_add-at c =
-    let took : Taken (rest (read_at c)) (read_at c).read-record.result.used =
-    let e = read_is c in
-    subst (λ (x : RecordRead). Taken (rest c) x.used) (sym e)
-    (taken (rest c) (ap (λ (x : RecordRead). x.refusal) (sym e) ∙ c.if-read-ne-DONE.false))
-    in
-    let onward : (0 < (read_at c).read-record.result.used) × ((here (read_at c)).loop.at + (read_at c).read-record.result.used ≤ length (sheet (read_at c))) =
-    let t = took in
-    (t.some, omega (arith, t.within, length-drop (here c).loop.at (sheet c)))
-    in
-    let o = onward in record { fits = omega (arith, (start c).well_formed.0.1) }
+    let sheet = c.args.sheet.now in
+    let read = read_is sheet c.loop-at.at _ c.loop-at-test.true c.read_record-read.ensures in
+    let o = onward sheet c.loop-at.at _ c.loop-at-test.true read c.if-read-ne-DONE.false in
+    record { fits = omega (arith, o.1, c.well_formed.0.1) }
 
 pub overflow_add-position : goal.overflow_add-position
 overflow_add-position c =
-    let took : Taken (rest (read_at c)) (read_at c).read-record.result.used =
-    let e = read_is c in
-    subst (λ (x : RecordRead). Taken (rest c) x.used) (sym e)
-    (taken (rest c) (ap (λ (x : RecordRead). x.refusal) (sym e) ∙ c.if-read-ne-DONE.false))
-    in
-    let onward : (0 < (read_at c).read-record.result.used) × ((here (read_at c)).loop.at + (read_at c).read-record.result.used ≤ length (sheet (read_at c))) =
-    let t = took in
-    (t.some, omega (arith, t.within, length-drop (here c).loop.at (sheet c)))
-    in
-    let o = onward in record { fits = omega (arith, (start c).well_formed.0.1) }
+    let sheet = c.args.sheet.now in
+    let read = read_is sheet c.loop-at.at _ c.loop-at-test.true c.read_record-read.ensures in
+    let o = onward sheet c.loop-at.at _ c.loop-at-test.true read c.if-read-ne-DONE.false in
+    record { fits = omega (arith, o.1, c.well_formed.0.1) }
 
 pub loop-at-smaller : goal.loop-at-smaller
 loop-at-smaller c =
-    let took : Taken (rest (read_at c)) (read_at c).read-record.result.used =
-    let e = read_is c in
-    subst (λ (x : RecordRead). Taken (rest c) x.used) (sym e)
-    (taken (rest c) (ap (λ (x : RecordRead). x.refusal) (sym e) ∙ c.if-read-ne-DONE.false))
-    in
-    let onward : (0 < (read_at c).read-record.result.used) × ((here (read_at c)).loop.at + (read_at c).read-record.result.used ≤ length (sheet (read_at c))) =
-    let t = took in
-    (t.some, omega (arith, t.within, length-drop (here c).loop.at (sheet c)))
-    in
-    let o = onward in omega arith
+    let sheet = c.args.sheet.now in
+    let read = read_is sheet c.loop-at.at _ c.loop-at-test.true c.read_record-read.ensures in
+    let o = onward sheet c.loop-at.at _ c.loop-at-test.true read c.if-read-ne-DONE.false in
+    omega (arith, o.0, o.1)
 
 pub loop-at-preserved : goal.loop-at-preserved
 loop-at-preserved c =
-    let took : Taken (rest (read_at c)) (read_at c).read-record.result.used =
-    let e = read_is c in
-    subst (λ (x : RecordRead). Taken (rest c) x.used) (sym e)
-    (taken (rest c) (ap (λ (x : RecordRead). x.refusal) (sym e) ∙ c.if-read-ne-DONE.false))
-    in
-    let onward : (0 < (read_at c).read-record.result.used) × ((here (read_at c)).loop.at + (read_at c).read-record.result.used ≤ length (sheet (read_at c))) =
-    let t = took in
-    (t.some, omega (arith, t.within, length-drop (here c).loop.at (sheet c)))
-    in
-    let o = onward in
-    let loop = (here c).loop in
-    let used = c.read_record-read.result.used in
-    let z : left c ≡ length (sheet c) + 1 - (loop.position + 1) = omega arith in (
+    let sheet = c.args.sheet.now in
+    let l = c.loop-at in
+    let read = read_is sheet l.at _ c.loop-at-test.true c.read_record-read.ensures in
+    let o = onward sheet l.at _ c.loop-at-test.true read c.if-read-ne-DONE.false in
+    let z : length sheet - l.position ≡ length sheet + 1 - (l.position + 1) = omega arith in (
       omega arith,
-      omega arith,
+      omega (arith, o.0),
       o.1,
-      whole c
-          ∙ load-next (left c) loop.table _ (rest c) (some c) (read_is c) c.if-read-ne-DONE.false c.asked.ensures c.load-change.ensures c.if-change-ne-DONE.false
-          ∙ (λ i. load_within (z i) c.load-change.result.table (loop.position + 1) (drop-drop used loop.at (sheet c) i)),
+      whole sheet l.at l.position l.table c.loop-at-test.true l.invariant.1 l.invariant.3
+          ∙ load-next (length sheet - l.position) l.table _ (drop l.at sheet) (some sheet l.at c.loop-at-test.true) read c.if-read-ne-DONE.false c.asked.ensures c.load-change.ensures c.if-change-ne-DONE.false
+          ∙ (λ i. load_within (z i) c.load-change.result.table (l.position + 1) (drop-drop c.read_record-read.result.used l.at sheet i)),
     )
 
 pub returns : goal.returns
-returns c =
-    let loop = c.loop-at in
-    c.filled.ensures ∙ sym (loop.invariant.3 ∙ load-end _ _ _ _ (simp length-drop (omega arith)))
+returns c = c.filled.ensures ∙ sym (c.loop-at.invariant.3 ∙ load-end _ _ _ _ (simp length-drop (omega arith)))

@@ -39,6 +39,3 @@ returns c =
 
 pub shape_of-buffer : goal.shape_of-buffer
 shape_of-buffer c = put-length (returns c).1
-
--- UNPLACED invariant invariant-loop: ['buffer₀', 'at', 'figures', 'end₀', 'code₀', 'name', 'last', 'buffer', 'end', 'code'] for ['l.initial.buffer', 'l.at', 'l.figures', 'l.initial.end', 'l.initial.code', 'l.buffer', 'l.end', 'l.code']
--- UNPLACED decreases decreases-loop: ['buffer₀', 'at', 'figures', 'end₀', 'code₀', 'name', 'last', 'buffer', 'end', 'code'] for ['l.initial.buffer', 'l.at', 'l.figures', 'l.initial.end', 'l.initial.code', 'l.buffer', 'l.end', 'l.code']

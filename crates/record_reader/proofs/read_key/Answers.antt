@@ -37,6 +37,3 @@ pub returns : goal.returns
 returns c =
     sym (ap key_answer (c.loop-i.invariant.2 ∙ key-all _ _ _ _ c.loop-i.invariant.1 c.loop-i-test.false
     ∙ on_then _ _ _ _ c.read_literal-end.ensures ∙ on-good _ _ _ c.if-not-end.false ∙ step-done _ _ _))
-
--- UNPLACED invariant invariant-loop: ['s', 'key₀', 'last₀', 'i₀', 'b₀', 'key', 'last', 'i'] for ['l.s', 'l.initial.key', 'l.initial.last', 'l.initial.i', 'l.key', 'l.last', 'l.i']
--- UNPLACED decreases decreases-loop: ['s', 'key₀', 'last₀', 'i₀', 'b₀', 'key', 'last', 'i'] for ['l.s', 'l.initial.key', 'l.initial.last', 'l.initial.i', 'l.key', 'l.last', 'l.i']

@@ -14,7 +14,7 @@ use Rattle.record_reader.proofs.read_key.Given as goal
 
 abbrev pub invariant-loop-i : goal.invariant-loop-i
 invariant-loop-i l =
-    (i ≤ 24) × (length l.last ≡ 24) × (onward l.initial.last key_form l.s ≡ onward l.i (key_rest (take i l.last) (24 - i)) l.s)
+    (l.i ≤ 24) × (length l.key ≡ 24) × (onward l.initial.last key_form l.s ≡ onward l.last (key_rest (take l.i l.key) (24 - l.i)) l.s)
 
 abbrev pub decreases-loop-i : goal.decreases-loop-i
-decreases-loop-i l = 24 - i
+decreases-loop-i l = 24 - l.i

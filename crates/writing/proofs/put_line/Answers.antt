@@ -15,5 +15,3 @@ put_bytes-requires c = ended-then c.args.name.now (digits c.args.n) (lf ∷ []) 
 
 pub shape_of-buffer : goal.shape_of-buffer
 shape_of-buffer c = put-length (returns c)
-
--- UNPLACED unplaced between goals ['put_item-end-requires', 'put_bytes-requires', 'shape_of-buffer']: (λ c κs. let s = c.before.before.before in ended-first s.args.name.now (digits s.args.n) (lf ∷ []) s.requires)

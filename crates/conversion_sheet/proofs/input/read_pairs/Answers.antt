@@ -19,36 +19,19 @@ loop-pair-init c = going-none c.args.s.now
 pub returns-then-s-at : goal.returns-then-s-at
 returns-then-s-at c = going_end c.loop-pair.invariant (inl c.if-s-at.true)
 
--- a line is read, and how long it is
+-- what is left of the text from a place on
 
-module _ (c : tie.After-line-size invariant-loop decreases-loop) where
-  abbrev named : tie.After-named-by invariant-loop decreases-loop
-  named = c.before.before
-
-  abbrev test : tie.Else1 invariant-loop decreases-loop
-  test = named.before.before
-
-  abbrev here : tie.At-loop invariant-loop decreases-loop
-  here = test.before.before
-
-  abbrev s : List ℕ
-  s = here.before.before.args.s.now
-
-  some : here.loop.at < length s
-  some = omega (arith, test.if1.left)
-
-  whole : take (length s - here.loop.at) (drop here.loop.at s) ≡ drop here.loop.at s
-  whole = take_all (length s - here.loop.at) (drop here.loop.at s) (simp length-drop (omega arith))
-
-  named-is : named.Named-by.result ≡ named_by (drop here.loop.at s)
-  named-is = named.Named-by.ensures ∙ ap named_by whole
-
-  size_is : c.line-size.result ≡ line_size (drop here.loop.at s)
-  size_is = c.line-size.ensures.0 ∙ ap line_size whole
+whole : (s : List ℕ) (at : ℕ) → at < length s → take (length s - at) (drop at s) ≡ drop at s
+whole s at h = take_all (length s - at) (drop at s) (simp length-drop (omega arith))
 
 pub loop-pair-preserved : goal.loop-pair-preserved
 loop-pair-preserved c =
-    going_more (here c).loop.invariant (some c) (test c).loop-test.true (ap (λ (n : Named). n) (named-is c)) (ap (λ (n : Named). n.after) (named-is c)) (size_is c)
+    let s = c.args.s.now in
+    let at = c.loop-pair.at in
+    let some : at < length s = omega (arith, c.if-s-at.false) in
+    let named = c.named_by-named.ensures ∙ ap named_by (whole s at some) in
+    let size = c.line_size.ensures.0 ∙ ap line_size (whole s at some) in
+    going_more c.loop-pair.invariant some c.loop-pair-test.true (ap (λ (n : Named). n.«before») named) (ap (λ (n : Named). n.after) named) size
 
 pub returns : goal.returns
 returns c = going_end c.loop-pair.invariant (inr (search rules))

@@ -50,5 +50,3 @@ returns c =
 
 pub shape_of-buffer : goal.shape_of-buffer
 shape_of-buffer c = put-length (returns c).1
-
--- UNPLACED helper few is used otherwise
