@@ -33,7 +33,7 @@ returns-then-leaves_out c =
     let few : ltb 32 (pair_count c.args.pairs.now) ≡ false =
     le-ltb 32 (pair_count c.args.pairs.now) (omega (arith, c.if-pair_count-gt-MOST_PAIRS.false, c.pair_count.ensures))
     in
-    let none : let args = c.args in eqb (first_misnaming args args.after args.pairs.now) 0 ≡ true =
+    let none : let args = c.args in eqb (first_misnaming args.before args.after args.pairs.now) 0 ≡ true =
     eq-eqb _ 0 (sym c.first_faulty-place.ensures ∙ c.if-place-ne0.false)
     in
     rw (few, none, sym c.leaves_out.ensures ∙ c.if-leaves_out.true) c.answer-then-leaves_out.ensures
@@ -44,7 +44,7 @@ returns c =
     let few : ltb 32 (pair_count c.args.pairs.now) ≡ false =
     le-ltb 32 (pair_count c.args.pairs.now) (omega (arith, c.if-pair_count-gt-MOST_PAIRS.false, c.pair_count.ensures))
     in
-    let none : let args = c.args in eqb (first_misnaming args args.after args.pairs.now) 0 ≡ true =
+    let none : let args = c.args in eqb (first_misnaming args.before args.after args.pairs.now) 0 ≡ true =
     eq-eqb _ 0 (sym c.first_faulty-place.ensures ∙ c.if-place-ne0.false)
     in
     rw (few, none, sym c.leaves_out.ensures ∙ c.if-leaves_out.false) c.answer-2.ensures

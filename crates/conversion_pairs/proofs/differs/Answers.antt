@@ -13,4 +13,4 @@ returns c =
     let args = c.args in
     ap not
     (c.agrees.ensures
-    ∙ (λ i. agrees ((c.slot_or_empty.ensures ∙ ap (slot_as args) c.number_on-from.ensures) i) ((c.slot_or_empty-2.ensures ∙ ap (slot_as args.after) c.number_on-to.ensures) i)))
+    ∙ (λ i. agrees ((c.slot_or_empty.ensures ∙ ap (slot_as args.before) c.number_on-from.ensures) i) ((c.slot_or_empty-2.ensures ∙ ap (slot_as args.after) c.number_on-to.ensures) i)))

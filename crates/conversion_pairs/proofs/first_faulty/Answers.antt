@@ -13,7 +13,7 @@ loop-i-init c =
     let count = c.pair_count-count.ensures in
     let args = c.args in
     let z : pair_count args.pairs.now ≡ c.pair_count-count.result - 0 = omega (arith, count) in
-    (search rules, count, ap (first_from (faulty args.naming args args.after args.pairs.now) 0) z)
+    (search rules, count, ap (first_from (faulty args.naming args.before args.after args.pairs.now) 0) z)
 
 pub returns-then-is_faulty : goal.returns-then-is_faulty
 returns-then-is_faulty c =
