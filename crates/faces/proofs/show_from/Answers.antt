@@ -3,4 +3,4 @@ use borrow.Author.Rules.{rules}
 use Rattle.faces.proofs.show_from.Goals as goal
 
 pub returns : goal.returns
-returns c = c.Read-of.ensures
+returns c = c.read_of-s.ensures

@@ -31,25 +31,18 @@ loop-done-init c =
       c.requires.4,
     )
 
--- the function's entry, from where the next piece's size is known
-
--- the stream bit that is next, and its block
-
-abbrev at : goal.After-piece-some → ℕ
-at c = c.args.p.skip + c.loop-done.done
-
 pub reach-made-requires : goal.reach-made-requires
 reach-made-requires c =
     let some : 0 < c.piece-some.result =
     omega (arith, c.piece-some.ensures)
     in
-    let in_block : at c % 256 + c.piece-some.result ≤ 256 =
+    let in_block : (c.args.p.skip + c.loop-done.done) % 256 + c.piece-some.result ≤ 256 =
     omega (arith, c.piece-some.ensures)
     in
-    let early : (start c).args.work.next ≤ (start c).args.p.skip / 256 + 1 =
+    let early : c.args.work.next ≤ c.args.p.skip / 256 + 1 =
     c.requires.2 (omega arith)
     in
-    let reachable : c.loop-done.made.next ≤ at c / 256 + 1 =
+    let reachable : c.loop-done.made.next ≤ (c.args.p.skip + c.loop-done.done) / 256 + 1 =
     let a = c.args in
     let loop = c.loop-done in
     next_small a.work.next a.p.skip loop.done c.piece-some.result in_block some loop.made.next loop.invariant.4 early
@@ -66,7 +59,7 @@ overflow_add-start c =
 
 pub xor_block-requires : goal.xor_block-requires
 xor_block-requires c =
-    let in_block : at c % 256 + c.piece-some.result ≤ 256 =
+    let in_block : (c.args.p.skip + c.loop-done.done) % 256 + c.piece-some.result ≤ 256 =
     omega (arith, c.piece-some.ensures)
     in
     let inside = c.requires.1.inside in
@@ -84,13 +77,13 @@ loop-done-preserved c =
     let some : 0 < c.piece-some.result =
     omega (arith, c.piece-some.ensures)
     in
-    let in_block : at c % 256 + c.piece-some.result ≤ 256 =
+    let in_block : (c.args.p.skip + c.loop-done.done) % 256 + c.piece-some.result ≤ 256 =
     omega (arith, c.piece-some.ensures)
     in
-    let early : (start c).args.work.next ≤ (start c).args.p.skip / 256 + 1 =
+    let early : c.args.work.next ≤ c.args.p.skip / 256 + 1 =
     c.requires.2 (omega arith)
     in
-    let reachable : c.loop-done.made.next ≤ at c / 256 + 1 =
+    let reachable : c.loop-done.made.next ≤ (c.args.p.skip + c.loop-done.done) / 256 + 1 =
     let a = c.args in
     let loop = c.loop-done in
     next_small a.work.next a.p.skip loop.done c.piece-some.result in_block some loop.made.next loop.invariant.4 early
@@ -98,14 +91,14 @@ loop-done-preserved c =
     let a = c.args in
     let loop = c.loop-done in
     let p = c.piece-some.result in
-    let j = at c / 256 in
+    let j = (c.args.p.skip + c.loop-done.done) / 256 in
     let e = c.reach-made.ensures.0 in
     let h = in_block in
     let next = ap (λ (r : Work). r.next) e ∙ at_next loop.made j in (
       omega (arith, c.piece-some.ensures, loop.invariant.0),
       ap length c.xor_block.ensures ∙ length-xored _ _ _ _ _ ∙ loop.invariant.1,
       c.xor_block.ensures
-          ∙ (λ i. xored (loop.invariant.2 i) (bit_at (held_at a.mode j _ c.reach-made.ensures.1 i)) (a.p.start + loop.done) (at c % 256) p)
+          ∙ (λ i. xored (loop.invariant.2 i) (bit_at (held_at a.mode j _ c.reach-made.ensures.1 i)) (a.p.start + loop.done) ((c.args.p.skip + c.loop-done.done) % 256) p)
           ∙ xored-stretch (block_of a.mode) a.buf.now a.p.start a.p.skip loop.done p h,
       ap (λ (r : Work). r.schedules) e ∙ at-schedules loop.made j ∙ loop.invariant.3,
       next ∙ next-later a.work.next a.p.skip loop.done p h some,

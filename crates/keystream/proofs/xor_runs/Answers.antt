@@ -27,7 +27,7 @@ loop-turn-init c =
       ap (λ (w : Work). w.next) e,
       ap (λ (w : Work). w.blocks) e,
       subst (λ (w : Work). w.blocks ≤ w.next) (sym e) (omega arith),
-      subst (λ (w : Work). Held c.Mode-of.result w.next _) (sym e) (record { two = refl; last = λ h. absurd (omega arith) }),
+      subst (λ (w : Work). Held c.mode_of-mode.result w.next _) (sym e) (record { two = refl; last = λ h. absurd (omega arith) }),
     )
 
 -- the function's entry, from inside the loop
@@ -54,7 +54,7 @@ loop-turn-preserved c =
     let e = c.xor_run-made.ensures in
     let p = c.args.p in
     let q = c.args.q in
-    let k = stream_bit (block_of c.Mode-of.result) in
+    let k = stream_bit (block_of c.mode_of-mode.result) in
     let run = inv.2 in
     let next = e.2 ∙ (λ i. block_after (inv.5 i) (run i).skip (run i).n) ∙ sym (next-after p q loop.turn) in (
       omega arith,
@@ -77,8 +77,8 @@ returns c =
     let q = c.args.q in
     let all : loop.turn ≡ 2 = omega arith in (
       loop.invariant.3
-          ∙ ap (buf_at p q (stream_bit (block_of c.Mode-of.result)) c.args.buf.now) all
-          ∙ ap (λ (m : Mode). through_run (through_run c.args.buf.now (stream_bit (block_of m)) p) (stream_bit (block_of m)) q) c.Mode-of.ensures,
+          ∙ ap (buf_at p q (stream_bit (block_of c.mode_of-mode.result)) c.args.buf.now) all
+          ∙ ap (λ (m : Mode). through_run (through_run c.args.buf.now (stream_bit (block_of m)) p) (stream_bit (block_of m)) q) c.mode_of-mode.ensures,
       loop.invariant.4,
       loop.invariant.6 ∙ ap (made_at p q) all ∙ both-made p q c.requires.3,
     )

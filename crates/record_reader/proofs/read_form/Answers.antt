@@ -11,9 +11,9 @@ use Rattle.record_reader.proofs.read_form.Goals as goal
 
 pub returns-then-not-two : goal.returns-then-not-two
 unfolding opened
-returns-then-not-two c = rw (not-true c.args.two c.if-not-two.true) c.good_to.ensures
+returns-then-not-two c = rw c.if-not-two.true c.good_to.ensures
 
 pub returns : goal.returns
 unfolding opened
 returns c =
-    rw (not-false c.args.two c.if-not-two.false) (c.read_literal.ensures ∙ ap (λ (b : Reading). answer (onward b (literal (ascii "form=2\n")) c.args.text.now)) c.good_to-2.ensures)
+    rw c.if-not-two.false (c.read_literal.ensures ∙ ap (λ (b : Reading). answer (onward b (literal (ascii "form=2\n")) c.args.text.now)) c.good_to-2.ensures)

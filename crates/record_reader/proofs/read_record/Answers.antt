@@ -15,326 +15,102 @@ use Rattle.forms.proofs.Forms.{spelt, stops, stop-within}
 use Rattle.record_reader.proofs.Records.{Small, small, record-means, lines-read}
 use Rattle.record_reader.proofs.read_record.Goals as goal
 
--- the places of the lines, from that of the key
+-- the values of a record that is read fit their types
 
-abbrev mcc-line : goal.After-read_key-key → goal.After-read_code-mcc
-mcc-line c = c
-
-abbrev place-line : goal.After-read_key-key → goal.After-read_line-place
-place-line c = (mcc-line c)
-
-abbrev side-line : goal.After-read_key-key → goal.After-read_line-side
-side-line c = (place-line c)
-
-abbrev use-line : goal.After-read_key-key → goal.After-read_use-usage
-use-line c = (side-line c)
-
-abbrev algorithm-line : goal.After-read_key-key → goal.After-read_algorithm-algorithm
-algorithm-line c = (use-line c)
-
-abbrev version-line : goal.After-read_key-key → goal.After-read_line-version
-version-line c = (algorithm-line c)
-
-abbrev number-line : goal.After-read_key-key → goal.After-read_line-number
-number-line c = (version-line c)
-
-abbrev form-line : goal.After-read_key-key → goal.After-read_form
-form-line c = (number-line c)
-
-abbrev start : goal.After-read_key-key → goal.After-starts_form-two
-start c = (form-line c)
-
-abbrev text : goal.After-read_key-key → List ℕ
-text c = (start c).args.text.now
-
-abbrev two : goal.After-read_key-key → Bool
-two c = (start c).starts-form.result
-
--- what the lines gave
-
-abbrev given : goal.After-read_key-key → Entry
-given c =
-    record {
-      number = (number-line c).read-line.result.value;
-      fields =
-          record {
-            version = (version-line c).read-line2.result.value;
-            algorithm = (algorithm-line c).read-algorithm.result.value;
-            usage = (use-line c).read-use.result.value;
-            side = (side-line c).read-line3.result.value;
-            place = (place-line c).read-line4.result.value;
-            mcc = (mcc-line c).read-code.result.value;
-            mnc = c.read_code-mnc.result.value;
-          };
-      key = c.read_key-key.result.key;
-    }
+small_if : (two : Bool) (s : List ℕ) (given : Entry) (good : Bool) (place : ℕ)
+    → read_at (record_form two) s 0 ≡ pick good (found given place) (wrong place) → not good ≡ false → Small given.fields
+small_if two s given good place e h =
+    let r = spelt (record_form two) s 0 given place (e ∙ pick-left good _ _ h) in
+    small ((record-means two).only given r.text r.spells).0
 
 pub refused_at-requires : goal.refused_at-requires
 refused_at-requires c =
-    let whole : read_at (record_form (starts_form (text c))) (text c) 0 ≡ pick c.read_key-key.result.good (found (given c) c.read_key-key.result.place) (wrong c.read_key-key.result.place) =
-    ap (λ (t : Bool). read_at (record_form t) (text c) 0) (sym (start c).starts-form.ensures)
-    ∙ lines-read (two c) (text c)
-    (form-line c).read-form.ensures
-    (number-line c).read-line.ensures
-    (version-line c).read-line2.ensures
-    (algorithm-line c).read-literal.ensures
-    (algorithm-line c).read-algorithm.ensures
-    (use-line c).read-literal2.ensures
-    (use-line c).read-use.ensures
-    (side-line c).read-line3.ensures
-    (place-line c).read-line4.ensures
-    (mcc-line c).read-code.ensures
-    c.read_code-mnc.ensures
-    c.read_literal-3.ensures
-    c.read_key-key.ensures
-    in
-    let is-wrong : not c.read_key-key.result.good ≡ true → read_at (record_form (starts_form (text c))) (text c) 0 ≡ wrong c.read_key-key.result.place =
-    λ h. whole ∙ pick-taken c.read_key-key.result.good _ _ h
-    in
-    stop-within (stops (record_form _) (record-means _).live _ 0 _ (is-wrong c.if-not-key.true)) zero-le
+    let read =
+    lines-read c.starts_form-two.result c.args.text.now c.read_form.ensures c.read_line-number.ensures c.read_line-version.ensures c.read_literal.ensures
+    c.read_algorithm-algorithm.ensures c.read_literal-2.ensures c.read_use-usage.ensures c.read_line-side.ensures c.read_line-place.ensures
+    c.read_code-mcc.ensures c.read_code-mnc.ensures c.read_literal-3.ensures c.read_key-key.ensures in
+    let two = c.starts_form-two.result in
+    stop-within (stops (record_form two) (record-means two).live _ 0 _ (read ∙ pick-taken c.read_key-key.result.good _ _ c.if-not-key.true)) zero-le
 
 pub returns-then-not-key : goal.returns-then-not-key
 unfolding record_read
 returns-then-not-key c =
-    let whole : read_at (record_form (starts_form (text c))) (text c) 0 ≡ pick c.read_key-key.result.good (found (given c) c.read_key-key.result.place) (wrong c.read_key-key.result.place) =
-    ap (λ (t : Bool). read_at (record_form t) (text c) 0) (sym (start c).starts-form.ensures)
-    ∙ lines-read (two c) (text c)
-    (form-line c).read-form.ensures
-    (number-line c).read-line.ensures
-    (version-line c).read-line2.ensures
-    (algorithm-line c).read-literal.ensures
-    (algorithm-line c).read-algorithm.ensures
-    (use-line c).read-literal2.ensures
-    (use-line c).read-use.ensures
-    (side-line c).read-line3.ensures
-    (place-line c).read-line4.ensures
-    (mcc-line c).read-code.ensures
-    c.read_code-mnc.ensures
-    c.read_literal-3.ensures
-    c.read_key-key.ensures
-    in
-    let is-wrong : not c.read_key-key.result.good ≡ true → read_at (record_form (starts_form (text c))) (text c) 0 ≡ wrong c.read_key-key.result.place =
-    λ h. whole ∙ pick-taken c.read_key-key.result.good _ _ h
-    in
-    c.refused_at.ensures ∙ sym (ap (read_answer _) (is-wrong c.if-not-key.true))
+    let read =
+    lines-read c.starts_form-two.result c.args.text.now c.read_form.ensures c.read_line-number.ensures c.read_line-version.ensures c.read_literal.ensures
+    c.read_algorithm-algorithm.ensures c.read_literal-2.ensures c.read_use-usage.ensures c.read_line-side.ensures c.read_line-place.ensures
+    c.read_code-mcc.ensures c.read_code-mnc.ensures c.read_literal-3.ensures c.read_key-key.ensures in
+    let starts = ap (λ (t : Bool). read_at (record_form t) c.args.text.now 0) (sym c.starts_form-two.ensures) in
+    c.refused_at.ensures ∙ sym (ap (read_answer _) (starts ∙ (read ∙ pick-taken c.read_key-key.result.good _ _ c.if-not-key.true)))
 
 pub overflow_cast-result : goal.overflow_cast-result
 overflow_cast-result c =
-    let whole : read_at (record_form (starts_form (text c))) (text c) 0 ≡ pick c.read_key-key.result.good (found (given c) c.read_key-key.result.place) (wrong c.read_key-key.result.place) =
-    ap (λ (t : Bool). read_at (record_form t) (text c) 0) (sym (start c).starts-form.ensures)
-    ∙ lines-read (two c) (text c)
-    (form-line c).read-form.ensures
-    (number-line c).read-line.ensures
-    (version-line c).read-line2.ensures
-    (algorithm-line c).read-literal.ensures
-    (algorithm-line c).read-algorithm.ensures
-    (use-line c).read-literal2.ensures
-    (use-line c).read-use.ensures
-    (side-line c).read-line3.ensures
-    (place-line c).read-line4.ensures
-    (mcc-line c).read-code.ensures
-    c.read_code-mnc.ensures
-    c.read_literal-3.ensures
-    c.read_key-key.ensures
-    in
-    let is_found : not c.read_key-key.result.good ≡ false → read_at (record_form (starts_form (text c))) (text c) 0 ≡ found (given c) c.read_key-key.result.place =
-    λ h. whole ∙ pick-left c.read_key-key.result.good _ _ h
-    in
-    let is-small : not c.read_key-key.result.good ≡ false → Small (given c).fields =
-    λ h. let r = spelt (record_form (starts_form (text c))) (text c) 0 (given c) _ (is_found h) in
-    small ((record-means (starts_form (text c))).only (given c) r.text r.spells).0
-    in
-    record { fits = omega (arith, (is-small c.if-not-key.false).version) }
+    let read =
+    lines-read c.starts_form-two.result c.args.text.now c.read_form.ensures c.read_line-number.ensures c.read_line-version.ensures c.read_literal.ensures
+    c.read_algorithm-algorithm.ensures c.read_literal-2.ensures c.read_use-usage.ensures c.read_line-side.ensures c.read_line-place.ensures
+    c.read_code-mcc.ensures c.read_code-mnc.ensures c.read_literal-3.ensures c.read_key-key.ensures in
+    let few = small_if c.starts_form-two.result c.args.text.now _ _ _ read c.if-not-key.false in
+    record { fits = omega (arith, few.version) }
 
 pub overflow_cast-result-2 : goal.overflow_cast-result-2
 overflow_cast-result-2 c =
-    let whole : read_at (record_form (starts_form (text c))) (text c) 0 ≡ pick c.read_key-key.result.good (found (given c) c.read_key-key.result.place) (wrong c.read_key-key.result.place) =
-    ap (λ (t : Bool). read_at (record_form t) (text c) 0) (sym (start c).starts-form.ensures)
-    ∙ lines-read (two c) (text c)
-    (form-line c).read-form.ensures
-    (number-line c).read-line.ensures
-    (version-line c).read-line2.ensures
-    (algorithm-line c).read-literal.ensures
-    (algorithm-line c).read-algorithm.ensures
-    (use-line c).read-literal2.ensures
-    (use-line c).read-use.ensures
-    (side-line c).read-line3.ensures
-    (place-line c).read-line4.ensures
-    (mcc-line c).read-code.ensures
-    c.read_code-mnc.ensures
-    c.read_literal-3.ensures
-    c.read_key-key.ensures
-    in
-    let is_found : not c.read_key-key.result.good ≡ false → read_at (record_form (starts_form (text c))) (text c) 0 ≡ found (given c) c.read_key-key.result.place =
-    λ h. whole ∙ pick-left c.read_key-key.result.good _ _ h
-    in
-    let is-small : not c.read_key-key.result.good ≡ false → Small (given c).fields =
-    λ h. let r = spelt (record_form (starts_form (text c))) (text c) 0 (given c) _ (is_found h) in
-    small ((record-means (starts_form (text c))).only (given c) r.text r.spells).0
-    in
-    record { fits = omega (arith, (is-small c.if-not-key.false).algorithm) }
+    let read =
+    lines-read c.starts_form-two.result c.args.text.now c.read_form.ensures c.read_line-number.ensures c.read_line-version.ensures c.read_literal.ensures
+    c.read_algorithm-algorithm.ensures c.read_literal-2.ensures c.read_use-usage.ensures c.read_line-side.ensures c.read_line-place.ensures
+    c.read_code-mcc.ensures c.read_code-mnc.ensures c.read_literal-3.ensures c.read_key-key.ensures in
+    let few = small_if c.starts_form-two.result c.args.text.now _ _ _ read c.if-not-key.false in
+    record { fits = omega (arith, few.algorithm) }
 
 pub overflow_cast-result-3 : goal.overflow_cast-result-3
 overflow_cast-result-3 c =
-    let whole : read_at (record_form (starts_form (text c))) (text c) 0 ≡ pick c.read_key-key.result.good (found (given c) c.read_key-key.result.place) (wrong c.read_key-key.result.place) =
-    ap (λ (t : Bool). read_at (record_form t) (text c) 0) (sym (start c).starts-form.ensures)
-    ∙ lines-read (two c) (text c)
-    (form-line c).read-form.ensures
-    (number-line c).read-line.ensures
-    (version-line c).read-line2.ensures
-    (algorithm-line c).read-literal.ensures
-    (algorithm-line c).read-algorithm.ensures
-    (use-line c).read-literal2.ensures
-    (use-line c).read-use.ensures
-    (side-line c).read-line3.ensures
-    (place-line c).read-line4.ensures
-    (mcc-line c).read-code.ensures
-    c.read_code-mnc.ensures
-    c.read_literal-3.ensures
-    c.read_key-key.ensures
-    in
-    let is_found : not c.read_key-key.result.good ≡ false → read_at (record_form (starts_form (text c))) (text c) 0 ≡ found (given c) c.read_key-key.result.place =
-    λ h. whole ∙ pick-left c.read_key-key.result.good _ _ h
-    in
-    let is-small : not c.read_key-key.result.good ≡ false → Small (given c).fields =
-    λ h. let r = spelt (record_form (starts_form (text c))) (text c) 0 (given c) _ (is_found h) in
-    small ((record-means (starts_form (text c))).only (given c) r.text r.spells).0
-    in
-    record { fits = omega (arith, (is-small c.if-not-key.false).usage) }
+    let read =
+    lines-read c.starts_form-two.result c.args.text.now c.read_form.ensures c.read_line-number.ensures c.read_line-version.ensures c.read_literal.ensures
+    c.read_algorithm-algorithm.ensures c.read_literal-2.ensures c.read_use-usage.ensures c.read_line-side.ensures c.read_line-place.ensures
+    c.read_code-mcc.ensures c.read_code-mnc.ensures c.read_literal-3.ensures c.read_key-key.ensures in
+    let few = small_if c.starts_form-two.result c.args.text.now _ _ _ read c.if-not-key.false in
+    record { fits = omega (arith, few.usage) }
 
 pub overflow_cast-result-4 : goal.overflow_cast-result-4
 overflow_cast-result-4 c =
-    let whole : read_at (record_form (starts_form (text c))) (text c) 0 ≡ pick c.read_key-key.result.good (found (given c) c.read_key-key.result.place) (wrong c.read_key-key.result.place) =
-    ap (λ (t : Bool). read_at (record_form t) (text c) 0) (sym (start c).starts-form.ensures)
-    ∙ lines-read (two c) (text c)
-    (form-line c).read-form.ensures
-    (number-line c).read-line.ensures
-    (version-line c).read-line2.ensures
-    (algorithm-line c).read-literal.ensures
-    (algorithm-line c).read-algorithm.ensures
-    (use-line c).read-literal2.ensures
-    (use-line c).read-use.ensures
-    (side-line c).read-line3.ensures
-    (place-line c).read-line4.ensures
-    (mcc-line c).read-code.ensures
-    c.read_code-mnc.ensures
-    c.read_literal-3.ensures
-    c.read_key-key.ensures
-    in
-    let is_found : not c.read_key-key.result.good ≡ false → read_at (record_form (starts_form (text c))) (text c) 0 ≡ found (given c) c.read_key-key.result.place =
-    λ h. whole ∙ pick-left c.read_key-key.result.good _ _ h
-    in
-    let is-small : not c.read_key-key.result.good ≡ false → Small (given c).fields =
-    λ h. let r = spelt (record_form (starts_form (text c))) (text c) 0 (given c) _ (is_found h) in
-    small ((record-means (starts_form (text c))).only (given c) r.text r.spells).0
-    in
-    record { fits = omega (arith, (is-small c.if-not-key.false).side) }
+    let read =
+    lines-read c.starts_form-two.result c.args.text.now c.read_form.ensures c.read_line-number.ensures c.read_line-version.ensures c.read_literal.ensures
+    c.read_algorithm-algorithm.ensures c.read_literal-2.ensures c.read_use-usage.ensures c.read_line-side.ensures c.read_line-place.ensures
+    c.read_code-mcc.ensures c.read_code-mnc.ensures c.read_literal-3.ensures c.read_key-key.ensures in
+    let few = small_if c.starts_form-two.result c.args.text.now _ _ _ read c.if-not-key.false in
+    record { fits = omega (arith, few.side) }
 
 pub overflow_cast-result-5 : goal.overflow_cast-result-5
 overflow_cast-result-5 c =
-    let whole : read_at (record_form (starts_form (text c))) (text c) 0 ≡ pick c.read_key-key.result.good (found (given c) c.read_key-key.result.place) (wrong c.read_key-key.result.place) =
-    ap (λ (t : Bool). read_at (record_form t) (text c) 0) (sym (start c).starts-form.ensures)
-    ∙ lines-read (two c) (text c)
-    (form-line c).read-form.ensures
-    (number-line c).read-line.ensures
-    (version-line c).read-line2.ensures
-    (algorithm-line c).read-literal.ensures
-    (algorithm-line c).read-algorithm.ensures
-    (use-line c).read-literal2.ensures
-    (use-line c).read-use.ensures
-    (side-line c).read-line3.ensures
-    (place-line c).read-line4.ensures
-    (mcc-line c).read-code.ensures
-    c.read_code-mnc.ensures
-    c.read_literal-3.ensures
-    c.read_key-key.ensures
-    in
-    let is_found : not c.read_key-key.result.good ≡ false → read_at (record_form (starts_form (text c))) (text c) 0 ≡ found (given c) c.read_key-key.result.place =
-    λ h. whole ∙ pick-left c.read_key-key.result.good _ _ h
-    in
-    let is-small : not c.read_key-key.result.good ≡ false → Small (given c).fields =
-    λ h. let r = spelt (record_form (starts_form (text c))) (text c) 0 (given c) _ (is_found h) in
-    small ((record-means (starts_form (text c))).only (given c) r.text r.spells).0
-    in
-    record { fits = omega (arith, (is-small c.if-not-key.false).place) }
+    let read =
+    lines-read c.starts_form-two.result c.args.text.now c.read_form.ensures c.read_line-number.ensures c.read_line-version.ensures c.read_literal.ensures
+    c.read_algorithm-algorithm.ensures c.read_literal-2.ensures c.read_use-usage.ensures c.read_line-side.ensures c.read_line-place.ensures
+    c.read_code-mcc.ensures c.read_code-mnc.ensures c.read_literal-3.ensures c.read_key-key.ensures in
+    let few = small_if c.starts_form-two.result c.args.text.now _ _ _ read c.if-not-key.false in
+    record { fits = omega (arith, few.place) }
 
 pub overflow_cast-result-6 : goal.overflow_cast-result-6
 overflow_cast-result-6 c =
-    let whole : read_at (record_form (starts_form (text c))) (text c) 0 ≡ pick c.read_key-key.result.good (found (given c) c.read_key-key.result.place) (wrong c.read_key-key.result.place) =
-    ap (λ (t : Bool). read_at (record_form t) (text c) 0) (sym (start c).starts-form.ensures)
-    ∙ lines-read (two c) (text c)
-    (form-line c).read-form.ensures
-    (number-line c).read-line.ensures
-    (version-line c).read-line2.ensures
-    (algorithm-line c).read-literal.ensures
-    (algorithm-line c).read-algorithm.ensures
-    (use-line c).read-literal2.ensures
-    (use-line c).read-use.ensures
-    (side-line c).read-line3.ensures
-    (place-line c).read-line4.ensures
-    (mcc-line c).read-code.ensures
-    c.read_code-mnc.ensures
-    c.read_literal-3.ensures
-    c.read_key-key.ensures
-    in
-    let is_found : not c.read_key-key.result.good ≡ false → read_at (record_form (starts_form (text c))) (text c) 0 ≡ found (given c) c.read_key-key.result.place =
-    λ h. whole ∙ pick-left c.read_key-key.result.good _ _ h
-    in
-    let is-small : not c.read_key-key.result.good ≡ false → Small (given c).fields =
-    λ h. let r = spelt (record_form (starts_form (text c))) (text c) 0 (given c) _ (is_found h) in
-    small ((record-means (starts_form (text c))).only (given c) r.text r.spells).0
-    in
-    record { fits = omega (arith, (is-small c.if-not-key.false).mcc) }
+    let read =
+    lines-read c.starts_form-two.result c.args.text.now c.read_form.ensures c.read_line-number.ensures c.read_line-version.ensures c.read_literal.ensures
+    c.read_algorithm-algorithm.ensures c.read_literal-2.ensures c.read_use-usage.ensures c.read_line-side.ensures c.read_line-place.ensures
+    c.read_code-mcc.ensures c.read_code-mnc.ensures c.read_literal-3.ensures c.read_key-key.ensures in
+    let few = small_if c.starts_form-two.result c.args.text.now _ _ _ read c.if-not-key.false in
+    record { fits = omega (arith, few.mcc) }
 
 pub overflow_cast-result-7 : goal.overflow_cast-result-7
 overflow_cast-result-7 c =
-    let whole : read_at (record_form (starts_form (text c))) (text c) 0 ≡ pick c.read_key-key.result.good (found (given c) c.read_key-key.result.place) (wrong c.read_key-key.result.place) =
-    ap (λ (t : Bool). read_at (record_form t) (text c) 0) (sym (start c).starts-form.ensures)
-    ∙ lines-read (two c) (text c)
-    (form-line c).read-form.ensures
-    (number-line c).read-line.ensures
-    (version-line c).read-line2.ensures
-    (algorithm-line c).read-literal.ensures
-    (algorithm-line c).read-algorithm.ensures
-    (use-line c).read-literal2.ensures
-    (use-line c).read-use.ensures
-    (side-line c).read-line3.ensures
-    (place-line c).read-line4.ensures
-    (mcc-line c).read-code.ensures
-    c.read_code-mnc.ensures
-    c.read_literal-3.ensures
-    c.read_key-key.ensures
-    in
-    let is_found : not c.read_key-key.result.good ≡ false → read_at (record_form (starts_form (text c))) (text c) 0 ≡ found (given c) c.read_key-key.result.place =
-    λ h. whole ∙ pick-left c.read_key-key.result.good _ _ h
-    in
-    let is-small : not c.read_key-key.result.good ≡ false → Small (given c).fields =
-    λ h. let r = spelt (record_form (starts_form (text c))) (text c) 0 (given c) _ (is_found h) in
-    small ((record-means (starts_form (text c))).only (given c) r.text r.spells).0
-    in
-    record { fits = omega (arith, (is-small c.if-not-key.false).mnc) }
+    let read =
+    lines-read c.starts_form-two.result c.args.text.now c.read_form.ensures c.read_line-number.ensures c.read_line-version.ensures c.read_literal.ensures
+    c.read_algorithm-algorithm.ensures c.read_literal-2.ensures c.read_use-usage.ensures c.read_line-side.ensures c.read_line-place.ensures
+    c.read_code-mcc.ensures c.read_code-mnc.ensures c.read_literal-3.ensures c.read_key-key.ensures in
+    let few = small_if c.starts_form-two.result c.args.text.now _ _ _ read c.if-not-key.false in
+    record { fits = omega (arith, few.mnc) }
 
 pub returns : goal.returns
 unfolding record_read
 returns c =
-    let whole : read_at (record_form (starts_form (text c))) (text c) 0 ≡ pick c.read_key-key.result.good (found (given c) c.read_key-key.result.place) (wrong c.read_key-key.result.place) =
-    ap (λ (t : Bool). read_at (record_form t) (text c) 0) (sym (start c).starts-form.ensures)
-    ∙ lines-read (two c) (text c)
-    (form-line c).read-form.ensures
-    (number-line c).read-line.ensures
-    (version-line c).read-line2.ensures
-    (algorithm-line c).read-literal.ensures
-    (algorithm-line c).read-algorithm.ensures
-    (use-line c).read-literal2.ensures
-    (use-line c).read-use.ensures
-    (side-line c).read-line3.ensures
-    (place-line c).read-line4.ensures
-    (mcc-line c).read-code.ensures
-    c.read_code-mnc.ensures
-    c.read_literal-3.ensures
-    c.read_key-key.ensures
-    in
-    let is_found : not c.read_key-key.result.good ≡ false → read_at (record_form (starts_form (text c))) (text c) 0 ≡ found (given c) c.read_key-key.result.place =
-    λ h. whole ∙ pick-left c.read_key-key.result.good _ _ h
-    in
-    sym (ap (read_answer _) (is_found c.if-not-key.false))
+    let read =
+    lines-read c.starts_form-two.result c.args.text.now c.read_form.ensures c.read_line-number.ensures c.read_line-version.ensures c.read_literal.ensures
+    c.read_algorithm-algorithm.ensures c.read_literal-2.ensures c.read_use-usage.ensures c.read_line-side.ensures c.read_line-place.ensures
+    c.read_code-mcc.ensures c.read_code-mnc.ensures c.read_literal-3.ensures c.read_key-key.ensures in
+    let starts = ap (λ (t : Bool). read_at (record_form t) c.args.text.now 0) (sym c.starts_form-two.ensures) in
+    sym (ap (read_answer _) (starts ∙ (read ∙ pick-left c.read_key-key.result.good _ _ c.if-not-key.false)))

@@ -10,7 +10,7 @@ returns c =
     λ i.
     record {
       refusal = record_text_bad;
-      line = c.Line-of.ensures i;
+      line = c.line_of.ensures i;
       column = c.column_of.ensures i;
       used = 0;
       number = 0;

@@ -8,8 +8,8 @@ use Rattle.slots.proofs.is_bad.Goals as goal
 pub returns-then-not-is_filled : goal.returns-then-not-is_filled
 unfolding is_bad
 returns-then-not-is_filled c =
-    rw (ap not (sym c.is_filled.ensures) ∙ c.if-not-is_filled.true) (ap not c.is_empty.ensures)
+    rw (sym c.is_filled.ensures ∙ c.if-not-is_filled.true) (ap not c.is_empty.ensures)
 
 pub returns-else-not-is_filled : goal.returns-else-not-is_filled
 unfolding is_bad
-returns-else-not-is_filled c = rw (c.if-not-is_filled.false, ap not (sym c.is_filled.ensures) ∙ c.if-not-is_filled.false)
+returns-else-not-is_filled c = rw (sym c.is_filled.ensures ∙ c.if-not-is_filled.false)

@@ -14,8 +14,8 @@ returns c =
     let a = c.args in
     c.put_to.ensures
     ∙ ap (changed_by a.table a.number)
-    (c.Clear-of.ensures ∙ (λ i. clear_put (c.table_is_bad.ensures i) (keyless (c.fields_or_none.ensures i)) a.number))
+    (c.clear_of-put.ensures ∙ (λ i. clear_put (c.table_is_bad.ensures i) (keyless (c.fields_or_none.ensures i)) a.number))
     ∙ clear-put _ a.table a.number _ (slot-there a.table a.number)
 
 pub put_to-requires : goal.put_to-requires
-put_to-requires = (λ c κs e. (clear-passed-of _ _ _ (sym (ap (λ (p : Put). p.refusal) c.Clear-of.ensures) ∙ e)).slot.numbered)
+put_to-requires = (λ c κs e. (clear-passed-of _ _ _ (sym (ap (λ (p : Put). p.refusal) c.clear_of-put.ensures) ∙ e)).slot.numbered)

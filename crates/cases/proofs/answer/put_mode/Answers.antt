@@ -21,8 +21,8 @@ put_value-requires c =
 pub returns : goal.returns
 unfolding mode_text
 returns c =
-    let made : value_text c.mixed_value-mixed.result ++ (value_text c.Mode-of.result.key ++ value_text c.Mode-of.result.value) ≡ mode_text c.args.algorithm c.args.ck c.args.iv =
-    let mode = c.Mode-of.ensures in
+    let made : value_text c.mixed_value-mixed.result ++ (value_text c.mode_of-mode.result.key ++ value_text c.mode_of-mode.result.value) ≡ mode_text c.args.algorithm c.args.ck c.args.iv =
+    let mode = c.mode_of-mode.ensures in
     λ i. value_text (c.mixed_value-mixed.ensures i) ++ (value_text (mode i).key ++ value_text (mode i).value)
     in
     put_as made

@@ -48,53 +48,50 @@ loop-i-init c =
     in
     (omega (arith, some), first-yes c.args.s.now some begins)
 
-abbrev text : goal.At-loop-i → List ℕ
-text here = here.args.s.now
-
 pub returns-then-not-may_follow : goal.returns-then-not-may_follow
 returns-then-not-may_follow c =
     c.no_number-then-not-may_follow.ensures
     ∙ sym (c.loop-i.invariant.1
-    ∙ number-no (text c) _ c.loop-i-test.true _ (sym c.may_follow.ensures ∙ c.if-not-may_follow.true))
+    ∙ number-no c.args.s.now _ c.loop-i-test.true _ (sym c.may_follow.ensures ∙ c.if-not-may_follow.true))
 
 -- the byte may follow
 
 pub overflow_mul-value : goal.overflow_mul-value
 overflow_mul-value c =
-    let follows : may_follow largest c.loop-i.value (get_or (text c) c.loop-i.i 0) ≡ true =
+    let follows : may_follow largest c.loop-i.value (get_or c.args.s.now c.loop-i.i 0) ≡ true =
     sym c.may_follow.ensures ∙ c.if-not-may_follow.false
     in
     let k = follow-is _ _ _ follows in record { fits = omega arith }
 
 pub overflow_sub-value-in-loop-i : goal.overflow_sub-value-in-loop-i
 overflow_sub-value-in-loop-i c =
-    let follows : may_follow largest c.loop-i.value (get_or (text c) c.loop-i.i 0) ≡ true =
+    let follows : may_follow largest c.loop-i.value (get_or c.args.s.now c.loop-i.i 0) ≡ true =
     sym c.may_follow.ensures ∙ c.if-not-may_follow.false
     in
     let k = follow-is _ _ _ follows in omega arith
 
 pub overflow_cast-value-in-loop-i : goal.overflow_cast-value-in-loop-i
 overflow_cast-value-in-loop-i c =
-    let follows : may_follow largest c.loop-i.value (get_or (text c) c.loop-i.i 0) ≡ true =
+    let follows : may_follow largest c.loop-i.value (get_or c.args.s.now c.loop-i.i 0) ≡ true =
     sym c.may_follow.ensures ∙ c.if-not-may_follow.false
     in
     let k = follow-is _ _ _ follows in record { fits = omega arith }
 
 pub overflow_add-value : goal.overflow_add-value
 overflow_add-value c =
-    let follows : may_follow largest c.loop-i.value (get_or (text c) c.loop-i.i 0) ≡ true =
+    let follows : may_follow largest c.loop-i.value (get_or c.args.s.now c.loop-i.i 0) ≡ true =
     sym c.may_follow.ensures ∙ c.if-not-may_follow.false
     in
     let k = follow-is _ _ _ follows in record { fits = omega arith }
 
 pub loop-i-preserved : goal.loop-i-preserved
 loop-i-preserved c =
-    let follows : may_follow largest c.loop-i.value (get_or (text c) c.loop-i.i 0) ≡ true =
+    let follows : may_follow largest c.loop-i.value (get_or c.args.s.now c.loop-i.i 0) ≡ true =
     sym c.may_follow.ensures ∙ c.if-not-may_follow.false
     in
-    (omega (arith, c.loop-i-test.true), c.loop-i.invariant.1 ∙ number-digit (text c) _ c.loop-i-test.true _ follows)
+    (omega (arith, c.loop-i-test.true), c.loop-i.invariant.1 ∙ number-digit c.args.s.now _ c.loop-i-test.true _ follows)
 
 pub returns : goal.returns
 returns c =
     let loop = c.loop-i in
-    c.good_number.ensures ∙ sym (loop.invariant.1 ∙ number-end _ (text c) loop.i (omega (arith, loop.invariant.0, c.loop-i-test.false)))
+    c.good_number.ensures ∙ sym (loop.invariant.1 ∙ number-end _ c.args.s.now loop.i (omega (arith, loop.invariant.0, c.loop-i-test.false)))

@@ -58,7 +58,7 @@ returns c =
       sym accepted,
       c.write_blocks.ensures.0
           ∙ ap (λ (m : Mode). written a.buf.now (stream_bit (block_of m)) 0 a.skip a.n)
-          (c.Mode-of.ensures ∙ (λ i. mode_of a.algorithm (c.key_of.ensures i) (c.iv_of.ensures i)))
+          (c.mode_of-mode.ensures ∙ (λ i. mode_of a.algorithm (c.key_of.ensures i) (c.iv_of.ensures i)))
           ∙ sym yes.0,
       c.write_blocks.ensures.1 ∙ sym yes.1,
     )

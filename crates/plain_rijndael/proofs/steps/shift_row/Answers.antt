@@ -20,12 +20,12 @@ shift-lt r h = ltb-true (shift_of r) 8 (holds (λ k. ltb (shift_of k) 8) 0 4 tt 
 
 pub overflow_add-t : goal.overflow_add-t
 overflow_add-t c =
-    omega (arith, shift-lt c.loop-r.r c.loop-c.invariant.0, c.Shift-of.ensures, c.loop-c-test.true)
+    omega (arith, shift-lt c.loop-r.r c.loop-c.invariant.0, c.shift_of.ensures, c.loop-c-test.true)
 
 pub loop-c-preserved : goal.loop-c-preserved
 loop-c-preserved c =
     in-row-more c.loop-c.invariant c.loop-c-test.true _
-    (ap (λ (n : ℕ). cell c.args.s c.loop-r.r ((c.loop-c.c + n) % 8)) c.Shift-of.ensures)
+    (ap (λ (n : ℕ). cell c.args.s c.loop-r.r ((c.loop-c.c + n) % 8)) c.shift_of.ensures)
 
 pub loop-r-init : goal.loop-r-init
 unfolding shift_row
