@@ -18,4 +18,4 @@ returns c =
     ∙ clear-put _ a.table a.number _ (slot-there a.table a.number)
 
 pub put_to-requires : goal.put_to-requires
-put_to-requires = (λ c κs e. (clear-passed-of _ _ _ (sym (ap (λ (p : Put). p.refusal) c.clear_of-put.ensures) ∙ e)).slot.numbered)
+put_to-requires c e = (clear-passed-of _ _ _ (sym (ap (λ (p : Put). p.refusal) c.clear_of-put.ensures) ∙ e)).slot.numbered

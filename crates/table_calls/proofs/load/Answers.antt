@@ -18,4 +18,4 @@ returns c =
     ∙ load-put _ a.table a.number _ (slot-there a.table a.number) a.asked a.key
 
 pub put_to-requires : goal.put_to-requires
-put_to-requires = (λ c κs e. (load-passed-of _ _ _ _ (sym (ap (λ (p : Put). p.refusal) c.load_of-put.ensures) ∙ e)).numbered)
+put_to-requires c e = (load-passed-of _ _ _ _ (sym (ap (λ (p : Put). p.refusal) c.load_of-put.ensures) ∙ e)).numbered
