@@ -2,22 +2,21 @@
 use mathlib.Core.Bool.{Bool, true, false, true≢false, ◌&&◌}
 use mathlib.Core.Logic.{◌⊎◌, inl, inr, ⊎_elim}
 use mathlib.Core.List.{List, [], ◌∷◌, ◌++◌, append_assoc, append-nil}
-use mathlib.Core.Path.{◌≡◌, refl, sym, ap, subst, ◌∙◌}
-use Prim.Native.Nat.{ℕ, zero, suc, ◌+◌, ◌≤◌, ◌<◌}
+use mathlib.Core.Path.{◌≡◌, refl, sym, ap, ◌∙◌}
+use Prim.Native.Nat.{ℕ, zero, suc, ◌+◌, ◌<◌}
 use native.Mathlib.Omega.{arith}
 use lib.Dec.{eqb, leb}
-use lib.ListN.{length, take}
-use borrow.Author.Tests.{eqb-true, eqb-false, lt-leb, le-leb}
+use lib.ListN.{length}
+use borrow.Author.Tests.{eqb-true}
 use Rattle.laws.specs.Choice.{pick}
 use Rattle.laws.proofs.Cases.{and_left, and_right, pick-cases}
 use Rattle.logged_calls.specs.declared.Call.{Call}
 use Rattle.call_log.specs.declared.Month.{Month}
-use Rattle.logged_calls.specs.Log.{GoodCall, AllGood, call_text, log_text, most_lines}
+use Rattle.logged_calls.specs.Log.{AllGood, call_text, log_text, most_lines}
 use Rattle.call_log.specs.Fed.{Fed, fed_to, fed, line_start, wrong_line, in_number, part_name}
 use Rattle.call_log.proofs.Feeds.{fed-append}
 use Rattle.month_sheet.specs.Sheet.{sheet_text, sums_in, wrong_line_text, printed_text, whole_log}
 use Rattle.month_sheet.proofs.Printed.{printed-sheet, printed-refused}
-use Rattle.month_sums.specs.Sums.{sums_over}
 use Rattle.month_sums.specs.Answer.{NoGoodLine, GoodLog, BadLog}
 use Rattle.month_sums.proofs.Prefix.{prefix, before, part_text}
 use Rattle.month_sums.proofs.Logs.{figures_after, text-more, good_more, length_more, log-fed, fed-up}

@@ -1,7 +1,5 @@
 -- `agreement::agrees`: by what the three tests ensure. Assumes nothing.
-use mathlib.Core.Path.{◌≡◌, sym, ◌∙◌}
-use borrow.Author.Rules.{rules}
-use borrow.Author.Tests.{not-true, not-false}
+use mathlib.Core.Path.{sym, ◌∙◌}
 use Rattle.agreement.specs.Agreement.{agrees}
 use Rattle.agreement.proofs.agrees.Goals as goal
 

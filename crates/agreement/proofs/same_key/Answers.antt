@@ -1,6 +1,6 @@
 -- `agreement::same_key`: the bytes passed agree. Assumes nothing.
 use mathlib.Core.Path.{◌≡◌, refl, sym, ap, ◌∙◌}
-use Prim.Native.Nat.{◌≤◌, ◌-◌}
+use Prim.Native.Nat.{◌-◌}
 use native.Mathlib.Omega.{arith}
 use borrow.Author.Rules.{rules}
 use Rattle.agreement.specs.Agreement.{same_bytes}
@@ -18,8 +18,8 @@ loop-i-preserved c =
     let a = c.args.a in
     let b = c.args.b in
     elim c.if-a-i.branch [
-      then-a-i w ↦ (search rules, w.same-is ∙ sym (byte-other a b loop.i w.if-a-i.true))
-    | else-a-i w ↦ (search rules, w.same-is ∙ (loop.invariant.1 ∙ sym (byte-same a b loop.i w.if-a-i.false)))
+      | then-a-i w ↦ (search rules, w.same-is ∙ sym (byte-other a b loop.i w.if-a-i.true))
+      | else-a-i w ↦ (search rules, w.same-is ∙ (loop.invariant.1 ∙ sym (byte-same a b loop.i w.if-a-i.false)))
     ]
 
 pub returns : goal.returns

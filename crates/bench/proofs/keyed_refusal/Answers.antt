@@ -1,5 +1,4 @@
 -- `bench::keyed_refusal`: each test is the definition's, and so is their order. Assumes nothing.
-use borrow.Author.Rules.{rules}
 use Rattle.bench.specs.Bench.{keyed_refusal}
 use Rattle.bench.proofs.keyed_refusal.Goals as goal
 

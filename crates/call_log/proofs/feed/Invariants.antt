@@ -1,12 +1,8 @@
 -- `call_log::feed`: with each byte it is no longer left. Assumes nothing.
-use mathlib.Core.Path.{◌≡◌, refl, sym, ap, ◌∙◌}
-use Prim.Native.Nat.{◌≤◌, ◌+◌, ◌-◌}
-use native.Mathlib.Omega.{arith}
-use borrow.Author.Rules.{rules}
-use lib.ListN.{length, get_or, drop}
-use Rattle.call_log.specs.Fed.{Fed, fed_to, fed}
-use Rattle.call_log.proofs.Feeds.{fed-next, fed-over}
-use Rattle.call_log.proofs.Sizes.{byte-size}
+use mathlib.Core.Path.{◌≡◌}
+use Prim.Native.Nat.{◌≤◌, ◌-◌}
+use lib.ListN.{length, drop}
+use Rattle.call_log.specs.Fed.{fed_to, fed}
 use Rattle.call_log.proofs.feed.Given as goal
 
 abbrev pub invariant-loop-i : goal.invariant-loop-i

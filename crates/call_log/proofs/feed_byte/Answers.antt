@@ -3,7 +3,6 @@ use mathlib.Core.Path.{sym, ap, ◌∙◌}
 use borrow.Author.Tests.{not-true, not-false}
 use Rattle.call_log.specs.Fed.{fed_to}
 use Rattle.call_log.proofs.Bytes.{byte-wrong, byte-ends, byte-in}
-use borrow.Author.Rules.{rules}
 use Rattle.call_log.proofs.feed_byte.Goals as goal
 
 pub returns-then-not-m : goal.returns-then-not-m

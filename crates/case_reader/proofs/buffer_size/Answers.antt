@@ -3,7 +3,6 @@ use mathlib.Core.List.{List}
 use mathlib.Core.Path.{ap}
 use Prim.Native.Nat.{ℕ, ◌/◌}
 use lib.ListN.{length}
-use borrow.Author.Rules.{rules}
 use Rattle.case_reader.proofs.buffer_size.Goals as goal
 
 pub returns : goal.returns

@@ -1,7 +1,6 @@
 -- `case_reader::bytes_readable`: key, initial value and buffer together. Assumes nothing.
 use mathlib.Core.Path.{ap, ◌∙◌}
 use mathlib.Core.Bool.{◌&&◌}
-use borrow.Author.Rules.{rules}
 use Rattle.line_values.specs.Parts.{are_bytes}
 use Rattle.case_reader.proofs.bytes_readable.Goals as goal
 

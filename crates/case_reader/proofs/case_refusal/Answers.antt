@@ -3,7 +3,6 @@ use mathlib.Core.List.{List}
 use mathlib.Core.Path.{◌≡◌, sym, ◌∙◌}
 use Prim.Native.Nat.{ℕ, ◌/◌}
 use lib.ListN.{length}
-use borrow.Author.Rules.{rules}
 use Rattle.bench.specs.Bench.{keyed_refusal}
 use Rattle.lines.specs.Line.{part}
 use Rattle.line_values.specs.Parts.{bytes_of}

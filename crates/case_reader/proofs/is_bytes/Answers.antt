@@ -1,6 +1,5 @@
 -- `case_reader::is_bytes`: the part as it stands. Assumes nothing.
 use mathlib.Core.Path.{ap, ◌∙◌}
-use borrow.Author.Rules.{rules}
 use Rattle.line_values.specs.Parts.{are_bytes}
 use Rattle.case_reader.proofs.is_bytes.Goals as goal
 

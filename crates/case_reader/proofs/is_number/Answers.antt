@@ -1,6 +1,5 @@
 -- `case_reader::is_number`: as the part is read. Assumes nothing.
 use mathlib.Core.Path.{ap, ◌∙◌}
-use borrow.Author.Rules.{rules}
 use Rattle.line_values.specs.declared.number.Number.{Number}
 use Rattle.line_values.specs.Parts.{number_of}
 use Rattle.case_reader.proofs.is_number.Goals as goal

@@ -1,7 +1,6 @@
 -- `case_reader::is_readable`: the numbers and the bytes together. Assumes nothing.
 use mathlib.Core.Path.{◌∙◌}
 use mathlib.Core.Bool.{◌&&◌}
-use borrow.Author.Rules.{rules}
 use Rattle.case_reader.specs.Case.{is_readable}
 use Rattle.case_reader.proofs.is_readable.Goals as goal
 

@@ -3,7 +3,6 @@ use mathlib.Core.List.{List}
 use mathlib.Core.Path.{sym, ap, ◌∙◌}
 use Prim.Native.Nat.{ℕ, ◌/◌}
 use lib.ListN.{length}
-use borrow.Author.Rules.{rules}
 use Rattle.line_values.specs.Parts.{are_bytes, bytes_of}
 use Rattle.case_reader.specs.Case.{case_of}
 use Rattle.case_reader.proofs.Passed.{iv-readable, iv-size}

@@ -1,7 +1,6 @@
 -- `case_reader::numbers_readable`: the four numbers together. Assumes nothing.
 use mathlib.Core.Path.{◌∙◌}
 use mathlib.Core.Bool.{◌&&◌}
-use borrow.Author.Rules.{rules}
 use Rattle.case_reader.specs.Case.{numbers_readable}
 use Rattle.case_reader.proofs.numbers_readable.Goals as goal
 

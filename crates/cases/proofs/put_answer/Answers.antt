@@ -4,7 +4,6 @@ use Prim.Native.Nat.{ℕ}
 use native.Mathlib.Omega.{arith}
 use lib.ListN.{take}
 use lib.Seq.{length-take-le}
-use borrow.Author.Rules.{rules}
 use Rattle.writing.specs.Text.{lf}
 use Rattle.writing.proofs.Puts.{put-length, put_as}
 use Rattle.cases.specs.Answer.{case_text}

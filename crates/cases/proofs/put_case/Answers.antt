@@ -3,8 +3,6 @@ use mathlib.Core.Path.{sym, ap, ◌∙◌}
 use Prim.Native.Nat.{◌≤◌}
 use native.Mathlib.Omega.{arith}
 use lib.ListN.{length}
-use borrow.Author.Rules.{rules}
-use borrow.Author.Tests.{not-true, not-false}
 use Rattle.writing.proofs.Puts.{put-length, put_as}
 use Rattle.case_reader.specs.Case.{Accepted}
 use Rattle.cases.specs.Answer.{refused_text, answer_room}

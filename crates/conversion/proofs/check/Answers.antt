@@ -1,6 +1,5 @@
 -- `conversion::check`: each answer by the tests that led to it. Assumes nothing.
-use mathlib.Core.Path.{◌≡◌, sym, ap, ◌∙◌}
-use borrow.Author.Rules.{rules}
+use mathlib.Core.Path.{sym, ap, ◌∙◌}
 use borrow.Author.Tests.{not-true, not-false}
 use Rattle.gathering.specs.declared.Gathered.{Gathered}
 use Rattle.conversion.specs.Conversion.{pairs_checked, conversion_checked}

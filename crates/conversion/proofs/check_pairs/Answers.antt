@@ -1,6 +1,5 @@
 -- `conversion::check_pairs`: names first. Assumes nothing.
-use mathlib.Core.Path.{◌≡◌, ◌∙◌}
-use borrow.Author.Rules.{rules}
+use mathlib.Core.Path.{◌∙◌}
 use Rattle.conversion.specs.Conversion.{firstly, pairs_checked}
 use Rattle.conversion.proofs.check_pairs.Goals as goal
 

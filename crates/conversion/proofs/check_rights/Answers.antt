@@ -1,6 +1,5 @@
 -- `conversion::check_rights`: by the place. Assumes nothing.
-use mathlib.Core.Path.{◌≡◌, sym, ap, ◌∙◌}
-use borrow.Author.Rules.{rules}
+use mathlib.Core.Path.{sym, ap, ◌∙◌}
 use borrow.Author.Tests.{eq-eqb, ne_eqb}
 use Rattle.conversion.specs.Conversion.{checked_as, rights_checked}
 use Rattle.conversion.proofs.check_rights.Goals as goal

@@ -1,7 +1,6 @@
 -- `pairs::differs`: by what `agrees` ensures of the two slots. Assumes nothing.
 use mathlib.Core.Bool.{not}
-use mathlib.Core.Path.{◌≡◌, sym, ap, ◌∙◌}
-use borrow.Author.Rules.{rules}
+use mathlib.Core.Path.{ap, ◌∙◌}
 use Rattle.slot_calls.specs.Seen.{slot_as}
 use Rattle.agreement.specs.Agreement.{agrees}
 use Rattle.conversion_pairs.specs.Pairs.{differs}

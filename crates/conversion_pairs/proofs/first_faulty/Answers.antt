@@ -1,6 +1,6 @@
 -- `pairs::first_faulty`: none of the pairs passed has the fault. Assumes nothing.
 use mathlib.Core.Path.{◌≡◌, sym, ap, ◌∙◌}
-use Prim.Native.Nat.{◌≤◌, ◌-◌}
+use Prim.Native.Nat.{◌-◌}
 use native.Mathlib.Omega.{arith}
 use borrow.Author.Rules.{rules}
 use Rattle.conversion_pairs.specs.Pairs.{pair_count, faulty, first_from, first_faulty}

@@ -1,10 +1,7 @@
 -- `pairs::first_faulty`: none of the pairs passed has the fault. Assumes nothing.
-use mathlib.Core.Path.{◌≡◌, sym, ap, ◌∙◌}
+use mathlib.Core.Path.{◌≡◌}
 use Prim.Native.Nat.{◌≤◌, ◌-◌}
-use native.Mathlib.Omega.{arith}
-use borrow.Author.Rules.{rules}
 use Rattle.conversion_pairs.specs.Pairs.{pair_count, faulty, first_from, first_faulty}
-use Rattle.conversion_pairs.proofs.Steps.{first-here, first_next, first-end}
 use Rattle.conversion_pairs.proofs.first_faulty.Given as goal
 
 abbrev pub invariant-loop-i : goal.invariant-loop-i

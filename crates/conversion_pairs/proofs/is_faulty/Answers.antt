@@ -1,5 +1,4 @@
 -- `pairs::is_faulty`: by the fault that is looked for. Assumes nothing.
-use borrow.Author.Rules.{rules}
 use Rattle.conversion_pairs.proofs.is_faulty.Goals as goal
 
 pub returns-then-naming : goal.returns-then-naming

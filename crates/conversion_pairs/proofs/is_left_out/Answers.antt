@@ -1,8 +1,6 @@
 -- `pairs::is_left_out`: by what the two tests ensure. Assumes nothing.
 use mathlib.Core.Bool.{not}
 use mathlib.Core.Path.{sym, ap, ◌∙◌}
-use borrow.Author.Rules.{rules}
-use borrow.Author.Tests.{not-true, not-false}
 use Rattle.conversion_pairs.specs.Pairs.{named_on, left_out}
 use Rattle.conversion_pairs.proofs.is_left_out.Goals as goal
 

@@ -1,11 +1,7 @@
 -- `pairs::is_named`: the pairs passed name the number or do not. Assumes nothing.
-use mathlib.Core.Logic.{⊎_elim}
-use mathlib.Core.Path.{◌≡◌, refl, sym, ap, ◌∙◌}
+use mathlib.Core.Path.{◌≡◌}
 use Prim.Native.Nat.{◌≤◌, ◌-◌}
-use native.Mathlib.Omega.{arith}
-use borrow.Author.Rules.{rules}
 use Rattle.conversion_pairs.specs.Pairs.{named_on}
-use Rattle.conversion_pairs.proofs.Steps.{named_here, named-not}
 use Rattle.conversion_pairs.proofs.is_named.Given as goal
 
 abbrev pub invariant-loop-i : goal.invariant-loop-i

@@ -1,6 +1,5 @@
 -- `pairs::is_there`: the slot of the number is filled. Assumes nothing.
 use mathlib.Core.Path.{ap, ◌∙◌}
-use borrow.Author.Rules.{rules}
 use Rattle.slots.specs.Slots.{is_filled}
 use Rattle.conversion_pairs.proofs.is_there.Goals as goal
 

@@ -1,6 +1,6 @@
 -- `pairs::leaves_out`: one of the numbers passed is left out or none is. Assumes nothing.
 use mathlib.Core.Path.{◌≡◌, refl, sym, ap, ◌∙◌}
-use Prim.Native.Nat.{◌≤◌, ◌-◌}
+use Prim.Native.Nat.{◌-◌}
 use native.Mathlib.Omega.{arith}
 use borrow.Author.Rules.{rules}
 use Rattle.conversion_pairs.specs.Pairs.{leaves_out}
@@ -17,8 +17,8 @@ loop-i-preserved c =
     let loop = c.loop-i in
     let args = c.args in
     elim c.if-is_left_out.branch [
-      then-is_left_out w ↦ (search rules, w.out-is ∙ sym (out-here args.after args.pairs.now loop.i (sym c.is_left_out.ensures ∙ w.if-is_left_out.true)))
-    | else-is_left_out w ↦ (search rules, w.out-is ∙ (loop.invariant.1 ∙ sym (out-not args.after args.pairs.now loop.i (sym c.is_left_out.ensures ∙ w.if-is_left_out.false))))
+      | then-is_left_out w ↦ (search rules, w.out-is ∙ sym (out-here args.after args.pairs.now loop.i (sym c.is_left_out.ensures ∙ w.if-is_left_out.true)))
+      | else-is_left_out w ↦ (search rules, w.out-is ∙ (loop.invariant.1 ∙ sym (out-not args.after args.pairs.now loop.i (sym c.is_left_out.ensures ∙ w.if-is_left_out.false))))
     ]
 
 pub returns : goal.returns

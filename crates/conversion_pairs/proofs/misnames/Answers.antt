@@ -1,6 +1,5 @@
 -- `pairs::misnames`: by what the test of each side ensures. Assumes nothing.
 use mathlib.Core.Path.{sym, ◌∙◌}
-use borrow.Author.Rules.{rules}
 use Rattle.conversion_pairs.specs.Pairs.{misnames}
 use Rattle.conversion_pairs.proofs.misnames.Goals as goal
 

@@ -1,7 +1,5 @@
 -- `pairs::misnames_on`: by what the two tests ensure. Assumes nothing.
-use mathlib.Core.Path.{◌≡◌, sym, ap, ◌∙◌}
-use borrow.Author.Rules.{rules}
-use borrow.Author.Tests.{not-true, not-false}
+use mathlib.Core.Path.{sym, ap, ◌∙◌}
 use Rattle.conversion_pairs.specs.Pairs.{named_on, is_there, misnames_on}
 use Rattle.conversion_pairs.proofs.misnames_on.Goals as goal
 

@@ -1,6 +1,5 @@
 -- `pairs::number_on`: a number that is missing is 0. Assumes nothing.
 use mathlib.Core.Path.{sym}
-use borrow.Author.Rules.{rules}
 use lib.ListN.{get_or-eq_default}
 use Rattle.conversion_pairs.proofs.number_on.Goals as goal
 

@@ -1,9 +1,8 @@
 -- `conversion_sheet::put_checked`: the text by the test that led to it. Assumes nothing.
 use mathlib.Core.List.{◌++◌}
-use mathlib.Core.Path.{◌≡◌, sym}
+use mathlib.Core.Path.{sym}
 use Prim.Native.Nat.{◌≤◌}
 use native.Mathlib.Omega.{arith}
-use borrow.Author.Rules.{rules}
 use lib.ListN.{length}
 use Rattle.writing.specs.Text.{digits, item, line_text}
 use Rattle.writing.specs.Writing.{Room}

@@ -1,5 +1,4 @@
 -- `conversion_sheet::report_of`: at the front of zeros. Assumes nothing.
-use borrow.Author.Rules.{rules}
 use Rattle.conversion_sheet.proofs.Texts.{put_front}
 use Rattle.conversion_sheet.proofs.report_of.Goals as goal
 

@@ -3,14 +3,13 @@ use mathlib.Core.Path.{◌≡◌, refl, sym, ap, subst, ◌∙◌}
 use mathlib.Core.List.{List}
 use Prim.Native.Nat.{ℕ, suc, ◌-◌, ◌≤◌}
 use native.Mathlib.Omega.{arith}
-use borrow.Author.Rules.{rules}
 use borrow.Author.Tests.{lt-ltb, le-ltb}
 use lib.ListN.{length, take, drop, replicate, length-drop}
 use lib.Seq.{take_all, take_at, length-take-le}
 use Rattle.conversion_pairs.specs.Pairs.{pair_count}
 use Rattle.conversion.specs.Conversion.{conversion_checked}
 use Rattle.conversion_sheet.specs.declared.input.Numbers.{Numbers}
-use Rattle.conversion_sheet.specs.Input.{text_size, first_text, behind, pair_numbers, pairs_read}
+use Rattle.conversion_sheet.specs.Input.{text_size, behind, pair_numbers, pairs_read}
 use Rattle.conversion_sheet.specs.Report.{conversion_report, report_of, checked_text}
 use Rattle.conversion_sheet.proofs.Texts.{front-within}
 use Rattle.conversion_sheet.proofs.report_on.Goals as goal

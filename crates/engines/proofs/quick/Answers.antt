@@ -1,8 +1,7 @@
 -- `engines::quick`: a refusal keeps the buffer; else the work's contracts say what it holds. Assumes nothing.
-use mathlib.Core.Path.{◌≡◌, sym, ◌∙◌}
+use mathlib.Core.Path.{sym, ◌∙◌}
 use native.Mathlib.Omega.{arith}
 use lib.ListN.{length}
-use borrow.Author.Rules.{rules}
 use Rattle.span.specs.Span.{written}
 use Rattle.keystream.specs.Stream.{keystream}
 use Rattle.bench.proofs.Passed.{KeyedPassed, keyed-passed}

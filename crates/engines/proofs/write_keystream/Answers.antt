@@ -2,7 +2,6 @@
 use mathlib.Core.List.{List}
 use mathlib.Core.Path.{ap, ◌∙◌}
 use Prim.Native.Nat.{ℕ}
-use borrow.Author.Rules.{rules}
 use Rattle.span.specs.Span.{xored}
 use Rattle.span.proofs.Laws.{xored-cleared}
 use Rattle.keystream.specs.Stream.{keystream}

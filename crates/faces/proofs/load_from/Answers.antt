@@ -1,6 +1,5 @@
 -- `faces::load_from`: the load of the fields that were given one by one. Assumes nothing.
 use mathlib.Core.Path.{ap, ◌∙◌}
-use borrow.Author.Rules.{rules}
 use Rattle.fields.specs.declared.Asked.{Asked}
 use Rattle.slots.specs.Slots.{keyless}
 use Rattle.slot_calls.specs.Seen.{load_put}

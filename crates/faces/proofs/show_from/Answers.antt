@@ -1,5 +1,4 @@
 -- `faces::show_from`: what is stored, part by part, is what is shown. Assumes nothing.
-use borrow.Author.Rules.{rules}
 use Rattle.faces.proofs.show_from.Goals as goal
 
 pub returns : goal.returns

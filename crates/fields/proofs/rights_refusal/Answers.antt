@@ -1,5 +1,4 @@
 -- `fields::rights_refusal`: each test is the definition's, and so is their order. Assumes nothing.
-use borrow.Author.Rules.{rules}
 use Rattle.fields.proofs.rights_refusal.Goals as goal
 
 pub returns : goal.returns

@@ -1,6 +1,5 @@
 -- `fields::stored`: a field in its range fits its kind. Assumes nothing.
 use native.Mathlib.Omega.{arith}
-use borrow.Author.Rules.{rules}
 use Rattle.fields.proofs.Ranges.{algorithm-high, use-high, side-high, place-high, mcc-high, mnc-high}
 use Rattle.fields.proofs.stored.Goals as goal
 

@@ -1,6 +1,5 @@
 -- `gathering::enter`: a record that reads, where its slot is free. Assumes nothing.
-use mathlib.Core.Path.{◌≡◌, sym, ap, ◌∙◌}
-use borrow.Author.Rules.{rules}
+use mathlib.Core.Path.{sym, ap, ◌∙◌}
 use borrow.Author.Tests.{eq-eqb, ne_eqb}
 use Rattle.slots.specs.Slots.{is_filled}
 use Rattle.gathering.specs.Gathering.{entered, gathered_to}

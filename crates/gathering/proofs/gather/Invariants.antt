@@ -1,21 +1,8 @@
 -- `gathering::gather`: what is left to gather stays the same with each record. Assumes nothing.
-use mathlib.Core.Path.{◌≡◌, sym, ap, subst, ◌∙◌}
-use mathlib.Core.Bool.{true}
-use mathlib.Core.List.{List}
-use Prim.Native.Nat.{ℕ, ◌+◌, ◌-◌, ◌<◌, ◌≤◌}
-use native.Mathlib.Omega.{arith}
-use borrow.Author.Rules.{rules}
-use borrow.Author.Tests.{not-true, not-false}
-use lib.ListN.{length, drop, length-drop}
-use lib.Seq.{take_all, drop-drop}
-use Rattle.refusals.specs.Numbers.{done}
-use Rattle.fields.specs.Fields.{is_slot_number}
-use Rattle.record_reader.specs.declared.RecordRead.{RecordRead}
-use Rattle.record_reader.specs.Record.{record_read}
-use Rattle.loading.proofs.Loads.{taken}
-use Rattle.gathering.specs.declared.Gathered.{Gathered}
-use Rattle.gathering.specs.Gathering.{entered, gather_on, gathered}
-use Rattle.gathering.proofs.Gathers.{read_number, enters, gather-end, gather-stops, gather-next}
+use mathlib.Core.Path.{◌≡◌}
+use Prim.Native.Nat.{◌-◌, ◌≤◌}
+use lib.ListN.{length, drop}
+use Rattle.gathering.specs.Gathering.{gather_on, gathered}
 use Rattle.gathering.proofs.gather.Given as goal
 
 abbrev pub invariant-loop-at : goal.invariant-loop-at

@@ -1,5 +1,4 @@
 -- `gathering::not_gathered`: with the empty table. Assumes nothing.
-use borrow.Author.Rules.{rules}
 use Rattle.gathering.proofs.not_gathered.Goals as goal
 
 pub returns : goal.returns

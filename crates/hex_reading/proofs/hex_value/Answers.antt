@@ -1,6 +1,5 @@
 -- `hex_reading::hex_value`: each answer by the tests that led to it. Assumes nothing.
 use native.Mathlib.Omega.{arith}
-use borrow.Author.Rules.{rules}
 use borrow.Author.Tests.{le-leb, lt-leb}
 use Rattle.forms.specs.Hexes.{hex_or, is_hex, hex_value}
 use Rattle.hex_reading.proofs.hex_value.Goals as goal

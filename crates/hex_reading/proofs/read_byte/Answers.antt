@@ -2,7 +2,6 @@
 use mathlib.Core.Path.{sym, ap, ◌∙◌}
 use Prim.Native.Nat.{◌<◌}
 use native.Mathlib.Omega.{arith}
-use borrow.Author.Rules.{rules}
 use Rattle.forms.specs.Hexes.{half_byte, byte}
 use Rattle.reading.specs.Reading.{answer}
 use Rattle.forms.proofs.Hexes.{half-small}

@@ -1,6 +1,5 @@
 -- `hex_reading::read_half`: each answer by the tests that led to it. Assumes nothing.
 use mathlib.Core.Path.{sym, ap, ◌∙◌}
-use borrow.Author.Rules.{rules}
 use Rattle.reading.specs.Reading.{answer}
 use Rattle.reading.proofs.Steps.{on-wrong, on-good, step_end, half-no, half-yes}
 use Rattle.hex_reading.proofs.read_half.Goals as goal

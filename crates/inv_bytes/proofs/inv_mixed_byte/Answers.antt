@@ -1,5 +1,4 @@
 -- `inv_bytes::inv_mixed_byte`: by the products' contracts. Assumes nothing.
-use borrow.Author.Rules.{rules}
 use lib.Bits.{bit_xor}
 use Rattle.inv_bytes.specs.Bytes.{inv_mixed_byte}
 use Rattle.inv_bytes.proofs.inv_mixed_byte.Goals as goal

@@ -1,5 +1,4 @@
 -- `inv_parts::inv_mixed_word`: by the callees' contracts. Assumes nothing.
-use borrow.Author.Rules.{rules}
 use Rattle.inv_parts.specs.Schedule.{inv_mixed_word}
 use Rattle.inv_parts.proofs.inv_mixed_word.Goals as goal
 

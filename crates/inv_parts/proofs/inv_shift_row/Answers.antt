@@ -1,10 +1,8 @@
 -- `inv_parts::inv_shift_row`: column by column, `Columns`; row 0 is stored too, so that one law serves. Assumes nothing.
 use mathlib.Core.Path.{refl, ap}
-use Prim.Native.Nat.{◌+◌, ◌-◌, ◌%◌}
-use borrow.Author.Rules.{rules}
-use Rattle.round_steps.specs.Steps.{shift_of}
+use Prim.Native.Nat.{◌-◌}
 use Rattle.inv_parts.specs.Steps.{inv_shift_row}
-use Rattle.laws.proofs.States.{Columns, columns-none, columns-more, columns-all, state-shape}
+use Rattle.laws.proofs.States.{columns-none, columns-more, columns-all, state-shape}
 use Rattle.laws.proofs.InRows.{not-turned}
 use Rattle.laws.specs.Lists.{cell}
 use Rattle.inv_parts.proofs.inv_shift_row.Goals as goal

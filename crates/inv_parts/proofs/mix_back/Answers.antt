@@ -1,14 +1,12 @@
 -- `inv_parts::mix_back`: `Filled` to i, and from i on the words are as they were. Assumes nothing.
-use mathlib.Core.Path.{◌≡◌, refl, ap, ◌∙◌}
-use Prim.Native.Nat.{ℕ, ◌-◌, ◌<◌, ◌≤◌}
+use mathlib.Core.Path.{refl, ap, ◌∙◌}
+use Prim.Native.Nat.{◌-◌, ◌<◌, ◌≤◌}
 use native.Mathlib.Omega.{arith}
 use borrow.Author.Rules.{rules}
 use lib.Dec.{lit≤}
-use lib.ListN.{get_or}
 use lib.Seq.{get_or-set_other}
-use Rattle.laws.specs.Lists.{Filled}
 use Rattle.laws.proofs.Lists.{fill_more}
-use Rattle.inv_parts.specs.Schedule.{inv_mixed_word, mixed_back}
+use Rattle.inv_parts.specs.Schedule.{inv_mixed_word}
 use Rattle.inv_parts.proofs.MixedBack.{first-stays, between-mixed, all-mixed}
 use Rattle.inv_parts.proofs.mix_back.Goals as goal
 

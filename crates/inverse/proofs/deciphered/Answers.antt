@@ -1,5 +1,4 @@
 -- `inverse::deciphered`: by the callees' contracts. Assumes nothing.
-use borrow.Author.Rules.{rules}
 use Rattle.inverse.specs.Decipher.{decipher}
 use Rattle.inverse.proofs.deciphered.Goals as goal
 

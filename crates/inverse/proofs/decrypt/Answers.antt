@@ -1,6 +1,6 @@
 -- `inverse::decrypt`: t is n rounds of what the loop began with. Assumes nothing.
 use mathlib.Core.Path.{◌≡◌, refl, ap, ◌∙◌}
-use Prim.Native.Nat.{◌-◌, ◌≤◌}
+use Prim.Native.Nat.{◌-◌}
 use native.Mathlib.Omega.{arith}
 use borrow.Author.Rules.{rules}
 use Rattle.inverse.specs.Decipher.{inv_round_of, inv_rounds, decrypted}

@@ -1,10 +1,7 @@
 -- `inverse::decrypt`: t is n rounds of what the loop began with. Assumes nothing.
-use mathlib.Core.Path.{◌≡◌, refl, ap, ◌∙◌}
+use mathlib.Core.Path.{◌≡◌}
 use Prim.Native.Nat.{◌-◌, ◌≤◌}
-use native.Mathlib.Omega.{arith}
-use borrow.Author.Rules.{rules}
-use Rattle.inverse.specs.Decipher.{inv_round_of, inv_rounds, decrypted}
-use Rattle.inverse.proofs.Turns.{inv-rounds-more}
+use Rattle.inverse.specs.Decipher.{inv_rounds}
 use Rattle.inverse.proofs.decrypt.Given as goal
 
 abbrev pub invariant-loop-n : goal.invariant-loop-n

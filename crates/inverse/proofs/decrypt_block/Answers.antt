@@ -1,5 +1,4 @@
 -- `inverse::decrypt_block`: by the callees' contracts. Assumes nothing.
-use borrow.Author.Rules.{rules}
 use Rattle.inverse.proofs.decrypt_block.Goals as goal
 
 pub returns : goal.returns

@@ -1,5 +1,4 @@
 -- `inverse::inv_last_round`: by the steps' own contracts. Assumes nothing.
-use borrow.Author.Rules.{rules}
 use Rattle.inverse.proofs.inv_last_round.Goals as goal
 
 pub returns : goal.returns

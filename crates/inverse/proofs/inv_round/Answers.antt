@@ -1,5 +1,4 @@
 -- `inverse::inv_round`: by the steps' own contracts. Assumes nothing.
-use borrow.Author.Rules.{rules}
 use Rattle.inverse.proofs.inv_round.Goals as goal
 
 pub returns : goal.returns

@@ -1,6 +1,5 @@
 -- `keystream::begin`: the schedule, by the callee's contract, and one counted. Assumes nothing.
 use mathlib.Core.Path.{refl}
-use borrow.Author.Rules.{rules}
 use Rattle.keystream.proofs.begin.Goals as goal
 
 pub returns : goal.returns

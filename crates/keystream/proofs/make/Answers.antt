@@ -2,7 +2,6 @@
 use mathlib.Core.Path.{refl, ap, ◌∙◌}
 use mathlib.Core.List.{List}
 use Prim.Native.Nat.{ℕ, ◌%◌}
-use borrow.Author.Rules.{rules}
 use lib.ListN.{length, set}
 use Rattle.laws.proofs.Lists.{length-tabulate}
 use Rattle.rijndael.specs.Cipher.{cipher, encrypted, to_block, to_state}

@@ -1,7 +1,6 @@
 -- `keystream::reach`: the last block, or one that is made. Assumes nothing.
 use mathlib.Core.Path.{sym, subst}
 use Prim.Native.Nat.{ℕ, ◌+◌}
-use borrow.Author.Rules.{rules}
 use borrow.Author.Tests.{eq-eqb, ne_eqb}
 use Rattle.keystream.specs.Work.{Held}
 use Rattle.keystream.proofs.Order.{put-held}

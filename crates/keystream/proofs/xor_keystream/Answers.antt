@@ -1,7 +1,6 @@
 -- `keystream::xor_keystream`: a run, and then a run of no bits. Assumes nothing.
 use mathlib.Core.Path.{◌∙◌}
 use native.Mathlib.Omega.{arith}
-use borrow.Author.Rules.{rules}
 use Rattle.span.proofs.Laws.{xored-none, xored-bytes}
 use Rattle.span.proofs.Stream.{stream-lt}
 use Rattle.block_counts.proofs.Blocks.{both-none}

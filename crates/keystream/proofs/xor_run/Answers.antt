@@ -1,14 +1,12 @@
 -- `keystream::xor_run`: `done` bits are xored, and each turn adds a piece of one block. Assumes nothing.
 use mathlib.Core.Path.{◌≡◌, refl, sym, ap, subst, ◌∙◌}
-use mathlib.Core.List.{[]}
-use Prim.Native.Nat.{ℕ, ◌<◌, ◌≤◌, ◌-◌, ◌+◌, ◌/◌, ◌%◌, min, max}
+use Prim.Native.Nat.{ℕ, ◌<◌, ◌≤◌, ◌-◌, ◌+◌, ◌/◌, ◌%◌, min}
 use native.Mathlib.Nat.{add_assoc}
 use native.Mathlib.Omega.{arith}
 use borrow.Author.Rules.{rules}
-use lib.ListN.{length, get_or}
+use lib.ListN.{length}
 use Rattle.laws.specs.Bits.{bit_at}
-use Rattle.span.specs.Span.{stream_bit, xored}
-use Rattle.block_counts.specs.Counts.{block_after}
+use Rattle.span.specs.Span.{xored}
 use Rattle.span.proofs.Laws.{xored-none, length-xored}
 use Rattle.span.proofs.Stream.{xored-stretch}
 use Rattle.block_counts.proofs.Blocks.{after_none}

@@ -1,21 +1,11 @@
 -- `keystream::xor_run`: `done` bits are xored, and each turn adds a piece of one block. Assumes nothing.
-use mathlib.Core.Path.{◌≡◌, refl, sym, ap, subst, ◌∙◌}
-use mathlib.Core.List.{[]}
-use Prim.Native.Nat.{ℕ, ◌<◌, ◌≤◌, ◌-◌, ◌+◌, ◌/◌, ◌%◌, min, max}
-use native.Mathlib.Nat.{add_assoc}
-use native.Mathlib.Omega.{arith}
-use borrow.Author.Rules.{rules}
-use lib.ListN.{length, get_or}
-use Rattle.laws.specs.Bits.{bit_at}
+use mathlib.Core.Path.{◌≡◌}
+use Prim.Native.Nat.{◌≤◌, ◌-◌, ◌+◌, ◌/◌, max}
+use lib.ListN.{length}
 use Rattle.span.specs.Span.{stream_bit, xored}
 use Rattle.block_counts.specs.Counts.{block_after}
-use Rattle.span.proofs.Laws.{xored-none, length-xored}
-use Rattle.span.proofs.Stream.{xored-stretch}
-use Rattle.block_counts.proofs.Blocks.{after_none}
 use Rattle.tea.specs.Keystream.{block_of}
-use Rattle.keystream.specs.declared.Work.{Work}
 use Rattle.keystream.specs.Work.{Held}
-use Rattle.keystream.proofs.Order.{at-schedules, at_next, at-blocks, at-few, held_at, next-later, made-later, next_small}
 use Rattle.keystream.proofs.xor_run.Given as goal
 
 abbrev pub invariant-loop-done : goal.invariant-loop-done

@@ -1,7 +1,6 @@
 -- `keystream::xor_runs`: one run and then the other, by the callees' contracts. Assumes nothing.
 use mathlib.Core.Path.{◌≡◌, refl, sym, ap, subst, ◌∙◌}
-use mathlib.Core.List.{List}
-use Prim.Native.Nat.{ℕ, ◌+◌, ◌-◌, ◌/◌, ◌<◌, ◌≤◌, max}
+use Prim.Native.Nat.{◌+◌, ◌-◌, ◌/◌, ◌<◌, ◌≤◌, max}
 use native.Mathlib.Omega.{arith}
 use borrow.Author.Rules.{rules}
 use lib.ListN.{length}
@@ -13,7 +12,7 @@ use Rattle.tea.specs.Keystream.{block_of}
 use Rattle.keystream.specs.declared.Run.{Run}
 use Rattle.keystream.specs.declared.Work.{Work}
 use Rattle.keystream.specs.Work.{Held, Fits, through_run}
-use Rattle.keystream.proofs.Turns.{run_at, next_at, made_at, buf_at, run-after, next-after, made_after, buf-after, fits-at, fits-long, early-at, both-made}
+use Rattle.keystream.proofs.Turns.{run_at, made_at, buf_at, run-after, next-after, made_after, buf-after, fits-at, fits-long, early-at, both-made}
 use Rattle.keystream.proofs.xor_runs.Goals as goal
 
 pub loop-turn-init : goal.loop-turn-init

@@ -1,19 +1,11 @@
 -- `keystream::xor_runs`: one run and then the other, by the callees' contracts. Assumes nothing.
-use mathlib.Core.Path.{◌≡◌, refl, sym, ap, subst, ◌∙◌}
-use mathlib.Core.List.{List}
-use Prim.Native.Nat.{ℕ, ◌+◌, ◌-◌, ◌/◌, ◌<◌, ◌≤◌, max}
-use native.Mathlib.Omega.{arith}
-use borrow.Author.Rules.{rules}
+use mathlib.Core.Path.{◌≡◌}
+use Prim.Native.Nat.{◌-◌, ◌≤◌}
 use lib.ListN.{length}
 use Rattle.span.specs.Span.{stream_bit}
-use Rattle.block_counts.specs.Counts.{block_after}
-use Rattle.span.proofs.Laws.{length-xored}
-use Rattle.tea.specs.declared.mode.Mode.{Mode}
 use Rattle.tea.specs.Keystream.{block_of}
-use Rattle.keystream.specs.declared.Run.{Run}
-use Rattle.keystream.specs.declared.Work.{Work}
-use Rattle.keystream.specs.Work.{Held, Fits, through_run}
-use Rattle.keystream.proofs.Turns.{run_at, next_at, made_at, buf_at, run-after, next-after, made_after, buf-after, fits-at, fits-long, early-at, both-made}
+use Rattle.keystream.specs.Work.{Held}
+use Rattle.keystream.proofs.Turns.{run_at, next_at, made_at, buf_at}
 use Rattle.keystream.proofs.xor_runs.Given as goal
 
 abbrev pub invariant-loop-turn : goal.invariant-loop-turn

@@ -1,9 +1,6 @@
 -- `line_faults::any_upper_hex`: what is to be answered stays the same with each byte. Assumes nothing.
-use mathlib.Core.Path.{◌≡◌, refl, sym, ◌∙◌}
+use mathlib.Core.Path.{refl, sym, ◌∙◌}
 use Prim.Native.Nat.{◌-◌}
-use lib.ListN.{length, drop}
-use borrow.Author.Rules.{rules}
-use Rattle.line_faults.specs.Faults.{any_upper_hex}
 use Rattle.line_faults.proofs.Hexes.{upper-end, upper-here, upper-on}
 use Rattle.line_faults.proofs.any_upper_hex.Goals as goal
 

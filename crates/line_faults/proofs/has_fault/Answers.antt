@@ -1,6 +1,4 @@
 -- `line_faults::has_fault`: by the fault. Assumes nothing.
-use mathlib.Core.Path.{sym, ap, ◌∙◌}
-use borrow.Author.Rules.{rules}
 use Rattle.line_faults.specs.Faults.{has_fault}
 use Rattle.line_faults.proofs.has_fault.Goals as goal
 

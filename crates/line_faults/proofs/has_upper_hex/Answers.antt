@@ -1,6 +1,5 @@
 -- `line_faults::has_upper_hex`: by the name, and then by the value. Assumes nothing.
 use mathlib.Core.Path.{sym, ap, ◌∙◌}
-use borrow.Author.Rules.{rules}
 use borrow.Author.Tests.{eq-eqb, ne_eqb}
 use Rattle.line_names.specs.Names.{key_name}
 use Rattle.line_faults.specs.Faults.{any_upper_hex}

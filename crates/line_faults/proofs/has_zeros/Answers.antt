@@ -1,7 +1,6 @@
 -- `line_faults::has_zeros`: by the name and the value. Assumes nothing.
 use mathlib.Core.Path.{ap, ◌∙◌}
 use lib.Dec.{ltb}
-use borrow.Author.Rules.{rules}
 use Rattle.line_faults.specs.Faults.{zeros_dropped}
 use Rattle.line_faults.proofs.has_zeros.Goals as goal
 

@@ -1,7 +1,6 @@
 -- `line_faults::lower_hex`: by the test. Assumes nothing.
 use mathlib.Core.Path.{sym, ◌∙◌}
 use native.Mathlib.Omega.{arith}
-use borrow.Author.Rules.{rules}
 use Rattle.line_faults.specs.Faults.{lower_hex}
 use Rattle.line_faults.proofs.Hexes.{upper-most}
 use Rattle.line_faults.proofs.lower_hex.Goals as goal

@@ -1,6 +1,5 @@
 -- `line_faults::zeros_dropped`: by the name. Assumes nothing.
 use mathlib.Core.Path.{sym, ◌∙◌}
-use borrow.Author.Rules.{rules}
 use Rattle.line_faults.specs.Faults.{zeros_dropped}
 use Rattle.line_faults.proofs.zeros_dropped.Goals as goal
 

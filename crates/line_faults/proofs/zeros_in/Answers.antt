@@ -4,7 +4,6 @@ use mathlib.Core.List.{List, [], ◌∷◌}
 use Prim.Native.Nat.{ℕ}
 use native.Mathlib.Omega.{arith}
 use lib.ListN.{length}
-use borrow.Author.Rules.{rules}
 use Rattle.line_parts.specs.Line.{leading}
 use Rattle.line_faults.specs.Faults.{zeros_in}
 use Rattle.line_faults.proofs.zeros_in.Goals as goal

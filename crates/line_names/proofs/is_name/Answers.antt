@@ -1,6 +1,5 @@
 -- `names::is_name`: the bytes up to the first `=` are the name. Assumes nothing.
 use native.Mathlib.Omega.{arith}
-use borrow.Author.Rules.{rules}
 use Rattle.lines.proofs.Pieces.{index-within}
 use Rattle.line_parts.specs.Line.{equals}
 use Rattle.line_names.proofs.is_name.Goals as goal

@@ -1,9 +1,7 @@
 -- `names::name_number`: what is to be answered stays the same with each name. Assumes nothing.
-use mathlib.Core.Path.{◌≡◌, refl, sym, ◌∙◌}
-use Prim.Native.Nat.{◌-◌, ◌≤◌}
-use native.Mathlib.Omega.{arith}
-use borrow.Author.Rules.{rules}
-use Rattle.line_names.specs.Names.{number_from, name_number, name_count}
+use mathlib.Core.Path.{refl, sym, ◌∙◌}
+use Prim.Native.Nat.{◌-◌}
+use Rattle.line_names.specs.Names.{name_number}
 use Rattle.line_names.proofs.Same.{number-here, number-on, number-none}
 use Rattle.line_names.proofs.name_number.Goals as goal
 

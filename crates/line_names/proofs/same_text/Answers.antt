@@ -1,11 +1,7 @@
 -- `names::same_text`: what is to be answered stays the same with each byte. Assumes nothing.
-use mathlib.Core.Path.{◌≡◌, refl, sym, ◌∙◌}
+use mathlib.Core.Path.{refl, sym, ◌∙◌}
 use mathlib.Core.Bool.{true, false}
 use Prim.Native.Nat.{◌-◌}
-use native.Mathlib.Omega.{arith}
-use lib.ListN.{length, drop}
-use borrow.Author.Rules.{rules}
-use Rattle.line_names.specs.Names.{same_text}
 use Rattle.line_names.proofs.Same.{same-sizes, same_end, same-other, same-on}
 use Rattle.line_names.proofs.same_text.Goals as goal
 

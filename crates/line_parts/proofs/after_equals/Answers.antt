@@ -1,10 +1,6 @@
 -- `line_parts::after_equals`: what is after the place of the `=`. Assumes nothing.
-use mathlib.Core.Path.{ap, sym, ◌∙◌}
-use Prim.Native.Nat.{ℕ}
-use lib.ListN.{drop}
 use native.Mathlib.Numerals.{add-one}
 use native.Mathlib.Omega.{arith}
-use borrow.Author.Rules.{rules}
 use Rattle.lines.proofs.Pieces.{index-within}
 use Rattle.line_parts.specs.Line.{equals, after_equals}
 use Rattle.line_parts.proofs.Counts.{past_end}

@@ -1,6 +1,5 @@
 -- `line_parts::bare`: by the last byte. Assumes nothing.
 use mathlib.Core.Path.{sym, ◌∙◌}
-use borrow.Author.Rules.{rules}
 use Rattle.line_parts.specs.Line.{cr, ends_with, bare}
 use Rattle.line_parts.proofs.Counts.{ends_some}
 use Rattle.line_parts.proofs.bare.Goals as goal

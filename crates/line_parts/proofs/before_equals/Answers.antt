@@ -1,6 +1,5 @@
 -- `line_parts::before_equals`: what is before the place of the `=`. Assumes nothing.
 use native.Mathlib.Omega.{arith}
-use borrow.Author.Rules.{rules}
 use Rattle.lines.proofs.Pieces.{index-within}
 use Rattle.line_parts.specs.Line.{equals, before_equals}
 use Rattle.line_parts.proofs.before_equals.Goals as goal

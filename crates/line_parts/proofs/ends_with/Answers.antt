@@ -1,7 +1,6 @@
 -- `line_parts::ends_with`: by the length, and then by the last byte. Assumes nothing.
 use native.Mathlib.Omega.{arith}
 use lib.ListN.{length}
-use borrow.Author.Rules.{rules}
 use borrow.Author.Tests.{lt-ltb, le-ltb}
 use Rattle.line_parts.specs.Line.{ends_with}
 use Rattle.line_parts.proofs.ends_with.Goals as goal

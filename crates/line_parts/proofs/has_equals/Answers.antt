@@ -1,5 +1,4 @@
 -- `line_parts::has_equals`: by the place of the `=`. Assumes nothing.
-use borrow.Author.Rules.{rules}
 use Rattle.line_parts.specs.Line.{has_equals}
 use Rattle.line_parts.proofs.has_equals.Goals as goal
 

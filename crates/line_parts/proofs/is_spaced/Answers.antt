@@ -1,9 +1,7 @@
 -- `line_parts::is_spaced`: before the `=`, or after it. Assumes nothing.
 use mathlib.Core.Path.{ap, sym, ◌∙◌}
-use Prim.Native.Nat.{ℕ}
 use native.Mathlib.Omega.{arith}
 use lib.Dec.{ltb}
-use borrow.Author.Rules.{rules}
 use Rattle.lines.specs.Line.{space}
 use Rattle.line_parts.specs.Line.{leading, trailing}
 use Rattle.line_parts.proofs.Counts.{spaced-before, spaced-after}

@@ -1,10 +1,6 @@
 -- `line_parts::leading`: how many there are stays the same with each byte passed. Assumes nothing.
-use mathlib.Core.Path.{◌≡◌}
-use Prim.Native.Nat.{◌-◌, ◌+◌}
+use Prim.Native.Nat.{◌-◌}
 use native.Mathlib.Omega.{arith}
-use lib.ListN.{length, drop}
-use borrow.Author.Rules.{rules}
-use Rattle.line_parts.specs.Line.{leading}
 use Rattle.line_parts.proofs.Counts.{leading_end, leading-other, leading-on}
 use Rattle.line_parts.proofs.leading.Goals as goal
 

@@ -1,8 +1,6 @@
 -- `line_parts::name_in`: what is before the `=`, without the spaces that end it. Assumes nothing.
-use mathlib.Core.Path.{sym, ap, ◌∙◌}
+use mathlib.Core.Path.{sym, ◌∙◌}
 use native.Mathlib.Omega.{arith}
-use borrow.Author.Rules.{rules}
-use borrow.Author.Tests.{not-true, not-false}
 use Rattle.lines.specs.Line.{space}
 use Rattle.line_parts.specs.Line.{name_in}
 use Rattle.line_parts.proofs.Counts.{trailing-within}

@@ -1,5 +1,4 @@
 -- `line_parts::rest`: the bytes from n on. Assumes nothing.
-use borrow.Author.Rules.{rules}
 use Rattle.lines.proofs.Pieces.{rest-is}
 use Rattle.line_parts.proofs.rest.Goals as goal
 

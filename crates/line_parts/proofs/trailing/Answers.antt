@@ -1,10 +1,7 @@
 -- `line_parts::trailing`: how many there are stays the same with each byte passed from the end. Assumes nothing.
-use mathlib.Core.Path.{◌≡◌, refl}
-use Prim.Native.Nat.{◌-◌, ◌+◌}
+use mathlib.Core.Path.{refl}
+use Prim.Native.Nat.{◌-◌}
 use native.Mathlib.Omega.{arith}
-use lib.ListN.{length, take}
-use borrow.Author.Rules.{rules}
-use Rattle.line_parts.specs.Line.{trailing}
 use Rattle.line_parts.proofs.Counts.{last-all, last-other, last_on, last_none}
 use Rattle.line_parts.proofs.trailing.Goals as goal
 

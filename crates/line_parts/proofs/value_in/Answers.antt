@@ -1,6 +1,5 @@
 -- `line_parts::value_in`: what is after the `=`, without the spaces that begin it. Assumes nothing.
 use native.Mathlib.Omega.{arith}
-use borrow.Author.Rules.{rules}
 use Rattle.lines.specs.Line.{space}
 use Rattle.line_parts.specs.Line.{value_in}
 use Rattle.line_parts.proofs.Counts.{leading-within}

@@ -1,11 +1,8 @@
 -- `lines::after_spaces`: what is to be left stays the same with each space. Assumes nothing.
-use mathlib.Core.Path.{◌≡◌, sym, ap, ◌∙◌}
-use Prim.Native.Nat.{ℕ, ◌≤◌, ◌-◌}
-use native.Mathlib.Omega.{arith}
+use mathlib.Core.Path.{◌≡◌}
+use Prim.Native.Nat.{◌≤◌, ◌-◌}
 use lib.ListN.{length, drop}
-use borrow.Author.Rules.{rules}
-use Rattle.lines.specs.Line.{space, after_spaces}
-use Rattle.lines.proofs.Pieces.{step-within, step-on, step-all}
+use Rattle.lines.specs.Line.{after_spaces}
 use Rattle.lines.proofs.after_spaces.Given as goal
 
 abbrev pub invariant-loop-i : goal.invariant-loop-i

@@ -1,8 +1,7 @@
 -- `lines::column_of`: so far, the column of the place reached. Assumes nothing.
 use mathlib.Core.Path.{◌≡◌, sym, ap, ◌∙◌}
-use Prim.Native.Nat.{◌≤◌, ◌+◌, ◌-◌}
+use Prim.Native.Nat.{◌+◌, ◌-◌}
 use native.Mathlib.Omega.{arith}
-use borrow.Author.Rules.{rules}
 use Rattle.lines.specs.Line.{column_of}
 use Rattle.lines.proofs.Ends.{column-first, column-next, column-same}
 use Rattle.lines.proofs.column_of.Goals as goal
@@ -17,8 +16,8 @@ overflow_add-column c = record { fits = omega (arith, c.well_formed.0.1) }
 pub loop-i-preserved : goal.loop-i-preserved
 loop-i-preserved c =
     elim c.if-text-i-eq10.branch [
-      then-text-i-eq10 w ↦ (omega arith, omega (arith, w.column-is), w.column-is ∙ sym (column-next _ _ (omega arith) w.if-text-i-eq10.true))
-    | else-text-i-eq10 w ↦ (omega arith, omega (arith, w.column-is), w.column-is ∙ ap (◌+ 1) c.loop-i.invariant.2 ∙ sym (column-same _ _ (omega arith) w.if-text-i-eq10.false))
+      | then-text-i-eq10 w ↦ (omega arith, omega (arith, w.column-is), w.column-is ∙ sym (column-next _ _ (omega arith) w.if-text-i-eq10.true))
+      | else-text-i-eq10 w ↦ (omega arith, omega (arith, w.column-is), w.column-is ∙ ap (◌+ 1) c.loop-i.invariant.2 ∙ sym (column-same _ _ (omega arith) w.if-text-i-eq10.false))
     ]
 
 pub returns : goal.returns

@@ -1,11 +1,7 @@
 -- `lines::column_of`: so far, the column of the place reached. Assumes nothing.
-use mathlib.Core.Path.{◌≡◌, sym, ap, ◌∙◌}
-use mathlib.Core.Logic.{⊎_elim}
+use mathlib.Core.Path.{◌≡◌}
 use Prim.Native.Nat.{◌≤◌, ◌+◌, ◌-◌}
-use native.Mathlib.Omega.{arith}
-use borrow.Author.Rules.{rules}
 use Rattle.lines.specs.Line.{column_of}
-use Rattle.lines.proofs.Ends.{column-first, column-next, column-same}
 use Rattle.lines.proofs.column_of.Given as goal
 
 abbrev pub invariant-loop-i : goal.invariant-loop-i

@@ -1,10 +1,6 @@
 -- `lines::index_of`: where the byte stands stays the same with each byte passed. Assumes nothing.
-use mathlib.Core.Path.{◌≡◌}
-use Prim.Native.Nat.{◌-◌, ◌+◌}
+use Prim.Native.Nat.{◌-◌}
 use native.Mathlib.Omega.{arith}
-use lib.ListN.{length, drop}
-use borrow.Author.Rules.{rules}
-use Rattle.lines.specs.Line.{index_of}
 use Rattle.lines.proofs.Pieces.{index-end, index-here, index_on}
 use Rattle.lines.proofs.index_of.Goals as goal
 

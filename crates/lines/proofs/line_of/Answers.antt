@@ -1,8 +1,7 @@
 -- `lines::line_of`: so far, the line of the place reached. Assumes nothing.
 use mathlib.Core.Path.{◌≡◌, sym, ap, ◌∙◌}
-use Prim.Native.Nat.{◌≤◌, ◌+◌, ◌-◌}
+use Prim.Native.Nat.{◌+◌, ◌-◌}
 use native.Mathlib.Omega.{arith}
-use borrow.Author.Rules.{rules}
 use Rattle.lines.specs.Line.{line_of}
 use Rattle.lines.proofs.Ends.{line_first, line-next, line_same}
 use Rattle.lines.proofs.line_of.Goals as goal
@@ -17,8 +16,8 @@ overflow_add-line c = record { fits = omega (arith, c.well_formed.0.1) }
 pub loop-i-preserved : goal.loop-i-preserved
 loop-i-preserved c =
     elim c.if-text-i-eq10.branch [
-      then-text-i-eq10 w ↦ (omega arith, omega (arith, w.line-is), w.line-is ∙ ap (◌+ 1) c.loop-i.invariant.2 ∙ sym (line-next _ _ (omega arith) w.if-text-i-eq10.true))
-    | else-text-i-eq10 w ↦ (omega arith, omega (arith, w.line-is), w.line-is ∙ c.loop-i.invariant.2 ∙ sym (line_same _ _ (omega arith) w.if-text-i-eq10.false))
+      | then-text-i-eq10 w ↦ (omega arith, omega (arith, w.line-is), w.line-is ∙ ap (◌+ 1) c.loop-i.invariant.2 ∙ sym (line-next _ _ (omega arith) w.if-text-i-eq10.true))
+      | else-text-i-eq10 w ↦ (omega arith, omega (arith, w.line-is), w.line-is ∙ c.loop-i.invariant.2 ∙ sym (line_same _ _ (omega arith) w.if-text-i-eq10.false))
     ]
 
 pub returns : goal.returns

@@ -1,11 +1,7 @@
 -- `lines::line_of`: so far, the line of the place reached. Assumes nothing.
-use mathlib.Core.Path.{◌≡◌, sym, ap, ◌∙◌}
-use mathlib.Core.Logic.{⊎_elim}
+use mathlib.Core.Path.{◌≡◌}
 use Prim.Native.Nat.{◌≤◌, ◌+◌, ◌-◌}
-use native.Mathlib.Omega.{arith}
-use borrow.Author.Rules.{rules}
 use Rattle.lines.specs.Line.{line_of}
-use Rattle.lines.proofs.Ends.{line_first, line-next, line_same}
 use Rattle.lines.proofs.line_of.Given as goal
 
 abbrev pub invariant-loop-i : goal.invariant-loop-i

@@ -3,7 +3,6 @@ use mathlib.Core.Path.{sym, ap, ◌∙◌}
 use native.Mathlib.Omega.{arith}
 use lib.ListN.{take}
 use lib.Seq.{length-take-le}
-use borrow.Author.Rules.{rules}
 use Rattle.lines.specs.Line.{index_of, space, part}
 use Rattle.lines.proofs.Pieces.{index-within}
 use Rattle.lines.proofs.part.Goals as goal

@@ -1,15 +1,8 @@
 -- `loading::load_all`: what is left to load stays the same with each record. Assumes nothing.
-use mathlib.Core.Path.{◌≡◌, sym, ap, subst, ◌∙◌}
-use mathlib.Core.List.{List}
-use Prim.Native.Nat.{ℕ, suc, ◌+◌, ◌-◌, ◌<◌, ◌≤◌}
-use native.Mathlib.Omega.{arith}
-use borrow.Author.Rules.{rules}
-use lib.ListN.{length, drop, length-drop}
-use lib.Seq.{take_all, drop-drop}
-use Rattle.record_reader.specs.declared.RecordRead.{RecordRead}
-use Rattle.record_reader.specs.Record.{record_read}
+use mathlib.Core.Path.{◌≡◌}
+use Prim.Native.Nat.{◌+◌, ◌-◌, ◌≤◌}
+use lib.ListN.{length, drop}
 use Rattle.loading.specs.Loading.{load_within, load_all}
-use Rattle.loading.proofs.Loads.{Taken, taken, load-end, text-refused, load-refused, load-next}
 use Rattle.loading.proofs.load_all.Given as goal
 
 abbrev pub invariant-loop-at : goal.invariant-loop-at

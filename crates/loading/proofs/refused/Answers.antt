@@ -1,5 +1,4 @@
 -- `loading::refused`: with the empty table. Assumes nothing.
-use borrow.Author.Rules.{rules}
 use Rattle.loading.proofs.refused.Goals as goal
 
 pub returns : goal.returns

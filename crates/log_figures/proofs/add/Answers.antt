@@ -1,5 +1,5 @@
 -- `log_figures::add`: by the test of the code. Assumes nothing.
-use Rattle.std.proofs.Common.{ℕ, ap, ◌∙◌, rules, eq-eqb, ne_eqb}
+use Rattle.std.proofs.Common.{ℕ, ap, ◌∙◌, eq-eqb, ne_eqb}
 use Rattle.logged_calls.specs.Figures.{added_accepted, added}
 use Rattle.logged_calls.proofs.Sound.{accepted-ranges, refused-code}
 use Rattle.log_figures.proofs.add.Goals as goal

@@ -1,6 +1,5 @@
 -- `log_figures::add_accepted`: one row after the other. Assumes nothing.
 use Rattle.logged_calls.specs.Figures.{added_accepted}
-use Rattle.std.proofs.Common.{rules}
 use Rattle.log_figures.proofs.add_accepted.Goals as goal
 
 pub returns : goal.returns

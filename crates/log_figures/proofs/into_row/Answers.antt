@@ -1,6 +1,5 @@
 -- `log_figures::into_row`: one figure after the other. Assumes nothing.
 use Rattle.logged_calls.specs.Figures.{into_row}
-use Rattle.std.proofs.Common.{rules}
 use Rattle.log_figures.proofs.into_row.Goals as goal
 
 pub returns : goal.returns

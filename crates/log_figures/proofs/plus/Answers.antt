@@ -1,5 +1,5 @@
 -- `log_figures::plus`: a store, or none where there is no such figure. Assumes nothing.
-use Rattle.std.proofs.Common.{set, sym, ap, rules}
+use Rattle.std.proofs.Common.{set, sym, ap}
 use lib.Seq.{set_out}
 use Rattle.logged_calls.specs.Figures.{plus}
 use Rattle.log_figures.proofs.plus.Goals as goal

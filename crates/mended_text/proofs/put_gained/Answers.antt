@@ -1,6 +1,5 @@
 -- `mended_text::put_gained`: by the number. Assumes nothing.
 use mathlib.Core.Path.{sym}
-use borrow.Author.Rules.{rules}
 use Rattle.writing.proofs.Puts.{put_as, room_as, put-length}
 use Rattle.mended_text.proofs.Laws.{gained-form, gained-code}
 use Rattle.mended_text.proofs.put_gained.Goals as goal

@@ -1,6 +1,5 @@
 -- `mended_text::put_line`: the name, the value, LF. Assumes nothing.
 use mathlib.Core.Path.{sym}
-use borrow.Author.Rules.{rules}
 use Rattle.writing.proofs.Puts.{put_as, put_then, put-length, room_as, room-first, room-then}
 use Rattle.mended_text.proofs.Laws.{line-parts}
 use Rattle.mended_text.proofs.put_line.Goals as goal

@@ -4,7 +4,6 @@ use Prim.Native.Nat.{ℕ, ◌≤◌, ◌-◌, ◌+◌}
 use native.Mathlib.Omega.{arith}
 use lib.ListN.{length, drop, set, length-set}
 use lib.Seq.{sets}
-use borrow.Author.Rules.{rules}
 use Rattle.writing.proofs.Puts.{put-more, put_all}
 use Rattle.mended_text.specs.Text.{lowered}
 use Rattle.mended_text.proofs.Laws.{length-lowered, lowered-at}

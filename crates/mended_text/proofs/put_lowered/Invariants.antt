@@ -1,13 +1,9 @@
 -- `mended_text::put_lowered`: what is to be left stays the same with each byte. Assumes nothing.
-use mathlib.Core.Path.{◌≡◌, refl, sym, ap, ◌∙◌}
-use Prim.Native.Nat.{ℕ, ◌≤◌, ◌-◌, ◌+◌}
-use native.Mathlib.Omega.{arith}
-use lib.ListN.{length, drop, set, length-set}
+use mathlib.Core.Path.{◌≡◌}
+use Prim.Native.Nat.{◌≤◌, ◌-◌, ◌+◌}
+use lib.ListN.{length, drop}
 use lib.Seq.{sets}
-use borrow.Author.Rules.{rules}
-use Rattle.writing.proofs.Puts.{put-more, put_all}
 use Rattle.mended_text.specs.Text.{lowered}
-use Rattle.mended_text.proofs.Laws.{length-lowered, lowered-at}
 use Rattle.mended_text.proofs.put_lowered.Given as goal
 
 abbrev pub invariant-loop-i : goal.invariant-loop-i

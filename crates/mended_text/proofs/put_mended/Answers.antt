@@ -3,7 +3,6 @@ use mathlib.Core.Path.{◌≡◌, sym, ap, ◌∙◌}
 use Prim.Native.Nat.{ℕ}
 use native.Mathlib.Omega.{arith}
 use lib.ListN.{drop}
-use borrow.Author.Rules.{rules}
 use Rattle.writing.proofs.Puts.{put_as, put-length, room_as}
 use Rattle.line_faults.specs.Faults.{zeros_dropped}
 use Rattle.mended_text.specs.Text.{lowered}

@@ -1,14 +1,9 @@
 -- `mended_text::put_text`: with each line it is no longer left. Assumes nothing.
-use mathlib.Core.Path.{◌≡◌}
 use Prim.Native.Nat.{◌≤◌, ◌-◌}
-use native.Mathlib.Omega.{arith}
-use borrow.Author.Rules.{rules}
-use Rattle.writing.proofs.Puts.{put-length}
-use Rattle.writing.proofs.Left.{Left, left-all, left_as, left-next, left-none, next-room}
+use Rattle.writing.proofs.Left.{Left}
 use Rattle.line_names.specs.Names.{name_count}
 use Rattle.sheet_faults.specs.Sheet.{lines_of}
 use Rattle.mended_text.specs.Text.{lines_mended, text_mended}
-use Rattle.mended_text.proofs.Laws.{lines_next, lines_none, text-lines}
 use Rattle.mended_text.proofs.put_text.Given as goal
 
 abbrev pub invariant-loop-k : goal.invariant-loop-k

@@ -1,6 +1,5 @@
 -- `mended_text::put_value`: by the names of the form. Assumes nothing.
 use mathlib.Core.Path.{◌≡◌, sym, ap, ◌∙◌}
-use borrow.Author.Rules.{rules}
 use Rattle.writing.proofs.Puts.{put_as, put-length, room_as}
 use Rattle.sheet_faults.specs.Sheet.{lines_of}
 use Rattle.mended_text.specs.Text.{mended_value, gained, value_mended}

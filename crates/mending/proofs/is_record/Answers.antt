@@ -1,8 +1,7 @@
 -- `mending::is_record`: by what the reader answers. Assumes nothing.
-use mathlib.Core.Path.{◌≡◌, sym, ap, ◌∙◌}
+use mathlib.Core.Path.{sym, ap, ◌∙◌}
 use lib.Dec.{eqb}
 use lib.ListN.{length}
-use borrow.Author.Rules.{rules}
 use borrow.Author.Tests.{eq-eqb, ne_eqb}
 use Rattle.refusals.specs.Numbers.{done}
 use Rattle.record_reader.specs.declared.RecordRead.{RecordRead}

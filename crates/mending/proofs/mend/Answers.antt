@@ -4,11 +4,9 @@ use mathlib.Core.Bool.{true, false}
 use Prim.Native.Nat.{ℕ, ◌≤◌}
 use native.Mathlib.Omega.{arith}
 use lib.ListN.{length, replicate, length-replicate}
-use borrow.Author.Rules.{rules}
-use borrow.Author.Tests.{not-true, not-false}
 use Rattle.refusals.specs.Numbers.{done}
 use Rattle.writing.specs.Writing.{Room}
-use Rattle.writing.proofs.Puts.{put_as, put-length, room_as}
+use Rattle.writing.proofs.Puts.{put_as, room_as}
 use Rattle.sheet_faults.specs.Sheet.{lines_of, sheet_bad}
 use Rattle.mended_text.specs.Text.{text_mended}
 use Rattle.mending.specs.Changes.{is_record, sheet_mended}

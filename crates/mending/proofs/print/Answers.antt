@@ -1,5 +1,4 @@
 -- `mending::print`: the mended sheet, or the refusal. Assumes nothing.
-use borrow.Author.Rules.{rules}
 use borrow.Author.Tests.{lt-ltb}
 use Rattle.mending.specs.Answer.{print_room, print_out}
 use Rattle.mending.proofs.Answers.{print-done, refused-room, refused-printed}

@@ -1,7 +1,6 @@
 -- `month_sheet::figure`: an entry, or 0 behind them. Assumes nothing.
 use mathlib.Core.Path.{sym}
 use lib.ListN.{get_or-eq_default}
-use borrow.Author.Rules.{rules}
 use Rattle.month_sheet.proofs.figure.Goals as goal
 
 pub returns : goal.returns

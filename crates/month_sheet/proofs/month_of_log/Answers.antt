@@ -1,9 +1,8 @@
 -- `month_sheet::month_of_log`: the figures begin at 0, and the log is one block. Assumes nothing.
-use mathlib.Core.Path.{◌≡◌, ap, sym, ◌∙◌}
+use mathlib.Core.Path.{◌≡◌, ap, ◌∙◌}
 use Rattle.call_log.specs.Fed.{Fed, fed_to, fed}
 use Rattle.month_sheet.specs.Sheet.{whole_log, printed_length, printed_buffer}
 use Rattle.month_sheet.proofs.Printed.{zeros-are}
-use borrow.Author.Rules.{rules}
 use Rattle.month_sheet.proofs.month_of_log.Goals as goal
 
 pub returns : goal.returns

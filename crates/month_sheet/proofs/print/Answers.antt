@@ -1,10 +1,10 @@
 -- `month_sheet::print`: the sheet or the line, where there is room. Assumes nothing.
 use mathlib.Core.Path.{refl, sym, ap, ◌∙◌}
 use native.Mathlib.Omega.{arith}
-use borrow.Author.Tests.{lt-ltb, eq-eqb, ne_eqb}
+use borrow.Author.Tests.{lt-ltb}
 use Rattle.writing.proofs.Puts.{put_as}
-use Rattle.call_log.specs.Fed.{fed_to, wrong_line}
-use Rattle.month_sheet.specs.Sheet.{sheet_text, sums_in, wrong_line_text, printed_text, printed_length, printed_buffer}
+use Rattle.call_log.specs.Fed.{fed_to}
+use Rattle.month_sheet.specs.Sheet.{wrong_line_text, printed_length, printed_buffer}
 use Rattle.month_sheet.proofs.Lengths.{refused-short}
 use Rattle.month_sheet.proofs.Printed.{printed, printed-sheet, printed-refused}
 use borrow.Author.Rules.{rules}

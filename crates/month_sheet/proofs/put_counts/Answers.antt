@@ -1,12 +1,11 @@
 -- `month_sheet::put_counts`: with each code its text is no longer left. Assumes nothing.
-use mathlib.Core.Path.{◌≡◌}
-use Prim.Native.Nat.{ℕ, ◌≤◌, ◌+◌, ◌-◌, ◌*◌, ◌/◌, ◌%◌}
+use Prim.Native.Nat.{◌+◌, ◌-◌}
 use native.Mathlib.Omega.{arith}
 use borrow.Author.Rules.{rules}
 use lib.ListN.{get_or}
 use Rattle.writing.proofs.Puts.{put_as, put-length}
-use Rattle.writing.proofs.Left.{Left, left-all, left_as, left-next, left-none}
-use Rattle.month_sheet.specs.Sheet.{count_text, texts, longest_count}
+use Rattle.writing.proofs.Left.{left-all, left_as, left-next, left-none}
+use Rattle.month_sheet.specs.Sheet.{count_text}
 use Rattle.month_sheet.proofs.Lengths.{count-short}
 use Rattle.month_sheet.proofs.Texts.{texts-next, texts-none}
 use Rattle.month_sheet.proofs.put_counts.Goals as goal

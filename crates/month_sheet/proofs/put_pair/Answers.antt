@@ -1,7 +1,6 @@
 -- `month_sheet::put_pair`: item after item. Assumes nothing.
 use Rattle.writing.proofs.Puts.{put-length}
 use Rattle.writing.proofs.Left.{left-all, left-room, left-next, left-last, next-room}
-use borrow.Author.Rules.{rules}
 use Rattle.month_sheet.proofs.put_pair.Goals as goal
 
 pub put_item-end-requires : goal.put_item-end-requires

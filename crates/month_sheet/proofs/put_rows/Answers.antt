@@ -1,12 +1,10 @@
 -- `month_sheet::put_rows`: with each row its text is no longer left. Assumes nothing.
-use mathlib.Core.Path.{◌≡◌}
-use Prim.Native.Nat.{ℕ, ◌≤◌, ◌+◌, ◌-◌, ◌*◌, ◌/◌, ◌%◌}
+use Prim.Native.Nat.{◌+◌, ◌-◌, ◌/◌, ◌%◌}
 use native.Mathlib.Omega.{arith}
 use borrow.Author.Rules.{rules}
-use lib.ListN.{get_or}
 use Rattle.writing.proofs.Puts.{put_as, put-length}
-use Rattle.writing.proofs.Left.{Left, left-all, left_as, left-next, left-none}
-use Rattle.month_sheet.specs.Sheet.{row_text, texts, row_in, sums_in, longest_row}
+use Rattle.writing.proofs.Left.{left-all, left_as, left-next, left-none}
+use Rattle.month_sheet.specs.Sheet.{row_text, row_in, sums_in}
 use Rattle.month_sheet.proofs.Texts.{texts-next, texts-none}
 use Rattle.month_sheet.proofs.put_rows.Goals as goal
 

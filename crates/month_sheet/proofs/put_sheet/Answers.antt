@@ -1,9 +1,7 @@
 -- `month_sheet::put_sheet`: one part after the other. Assumes nothing.
-use mathlib.Core.Path.{◌≡◌}
 use native.Mathlib.Omega.{arith}
 use Rattle.writing.proofs.Puts.{put_as, put_then}
 use Rattle.month_sheet.specs.Sheet.{total_text, sheet_text}
-use borrow.Author.Rules.{rules}
 use Rattle.month_sheet.proofs.put_sheet.Goals as goal
 
 pub returns : goal.returns

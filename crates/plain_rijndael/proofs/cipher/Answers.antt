@@ -1,6 +1,5 @@
 -- `plain_rijndael::cipher`: by the callees' contracts. Assumes nothing.
 use mathlib.Core.Path.{◌∙◌}
-use borrow.Author.Rules.{rules}
 use Rattle.rijndael.specs.Cipher.{cipher, encrypted, to_block}
 use Rattle.plain_rijndael.proofs.cipher.Goals as goal
 

@@ -1,11 +1,7 @@
 -- `plain_rijndael::encrypt`: t is rounds 1 to n - 1 of what the loop began with. Assumes nothing.
-use mathlib.Core.Path.{◌≡◌, refl, ap, ◌∙◌}
+use mathlib.Core.Path.{◌≡◌}
 use Prim.Native.Nat.{◌-◌, ◌≤◌}
-use native.Mathlib.Omega.{arith}
-use borrow.Author.Rules.{rules}
-use Rattle.rijndael.specs.Cipher.{rounds, encrypted}
-use Rattle.round_steps.specs.Steps.{round_of}
-use Rattle.rijndael.proofs.Rounds.{rounds-more}
+use Rattle.rijndael.specs.Cipher.{rounds}
 use Rattle.plain_schedule.specs.Bytes.{words_of}
 use Rattle.plain_rijndael.proofs.encrypt.Given as goal
 

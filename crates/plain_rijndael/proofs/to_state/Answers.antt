@@ -1,12 +1,9 @@
 -- `plain_rijndael::to_state`: cell by cell. Assumes nothing.
-use mathlib.Core.List.{List}
 use mathlib.Core.Path.{refl}
-use Prim.Native.Nat.{ℕ, ◌+◌, ◌-◌, ◌*◌}
-use borrow.Author.Rules.{rules}
-use lib.ListN.{get_or}
+use Prim.Native.Nat.{◌-◌}
 use Rattle.rijndael.specs.Cipher.{to_state}
 use Rattle.laws.proofs.States.{zero-shape}
-use Rattle.laws.proofs.InRows.{InRow, InRows, in-rows-none, in-row-none, in-row-more, in-rows-more, in-rows-all}
+use Rattle.laws.proofs.InRows.{in-rows-none, in-row-none, in-row-more, in-rows-more, in-rows-all}
 use Rattle.plain_rijndael.proofs.to_state.Goals as goal
 
 pub loop-r-init : goal.loop-r-init

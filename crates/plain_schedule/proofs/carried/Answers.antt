@@ -1,7 +1,6 @@
 -- `plain_schedule::carried`: where 6 divides i, the callees' contracts. Assumes nothing.
-use mathlib.Core.Path.{◌≡◌, refl, ap, ◌∙◌}
+use mathlib.Core.Path.{refl, ap, ◌∙◌}
 use Prim.Native.Nat.{ℕ, ◌*◌}
-use borrow.Author.Rules.{rules}
 use borrow.Author.Tests.{eq-eqb, ne_eqb}
 use lib.Bits.{bit_xor}
 use Rattle.schedule.specs.Schedule.{sub_byte, carried}

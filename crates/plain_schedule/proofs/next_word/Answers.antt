@@ -2,7 +2,6 @@
 use mathlib.Core.List.{[]}
 use mathlib.Core.Path.{ap, ◌∙◌}
 use Prim.Native.Nat.{◌-◌}
-use borrow.Author.Rules.{rules}
 use lib.Bits.{bit_xor}
 use lib.ListN.{get_or}
 use Rattle.plain_schedule.specs.Bytes.{word_of}

@@ -1,5 +1,4 @@
 -- `plain_schedule::rot_byte`: the word of the turned bytes. Assumes nothing.
-use borrow.Author.Rules.{rules}
 use Rattle.plain_schedule.specs.Bytes.{word_of}
 use Rattle.plain_schedule.proofs.Words.{array-bytes, rot-join}
 use Rattle.plain_schedule.proofs.rot_byte.Goals as goal

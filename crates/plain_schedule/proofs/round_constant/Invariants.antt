@@ -1,10 +1,6 @@
 -- `plain_schedule::round_constant`: one doubling a turn. Assumes nothing.
-use mathlib.Core.Path.{◌≡◌, refl, ap, ◌∙◌}
-use Prim.Native.Nat.{ℕ, ◌+◌, ◌-◌, ◌≤◌}
-use native.Mathlib.Numerals.{add-one}
-use native.Mathlib.Omega.{arith}
-use borrow.Author.Rules.{rules}
-use Rattle.gf256.specs.Field.{times_z}
+use mathlib.Core.Path.{◌≡◌}
+use Prim.Native.Nat.{◌-◌, ◌≤◌}
 use Rattle.schedule.specs.Schedule.{round_constant}
 use Rattle.plain_schedule.proofs.round_constant.Given as goal
 

@@ -1,6 +1,5 @@
 -- `plain_schedule::sub_byte`: byte by byte. Assumes nothing.
 use mathlib.Core.Path.{◌∙◌}
-use borrow.Author.Rules.{rules}
 use Rattle.words.specs.Words.{join}
 use Rattle.plain_schedule.specs.Bytes.{word_of}
 use Rattle.plain_schedule.proofs.Words.{array-bytes, sub-join}

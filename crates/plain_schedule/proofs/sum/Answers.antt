@@ -1,5 +1,4 @@
 -- `plain_schedule::sum`: byte by byte. Assumes nothing.
-use borrow.Author.Rules.{rules}
 use Rattle.plain_schedule.specs.Bytes.{word_of}
 use Rattle.plain_schedule.proofs.Words.{array-bytes, sum-join}
 use Rattle.plain_schedule.proofs.sum.Goals as goal

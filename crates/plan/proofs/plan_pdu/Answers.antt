@@ -1,5 +1,4 @@
 -- `plan::plan_pdu` meets its contract. Assumes nothing.
-use borrow.Author.Rules.{rules}
 use borrow.Author.Tests.{eq-eqb, ne_eqb}
 use Rattle.plan.specs.Plan.{plan_of}
 use Rattle.plan.proofs.plan_pdu.Goals as goal

@@ -1,6 +1,5 @@
 -- `plan::plan_refusal` meets its contract. Assumes nothing.
 use mathlib.Core.Path.{sym, ◌∙◌}
-use borrow.Author.Rules.{rules}
 use Rattle.plan.specs.Plan.{plan_refusal}
 use Rattle.plan.proofs.plan_refusal.Goals as goal
 

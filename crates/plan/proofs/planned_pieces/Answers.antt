@@ -2,7 +2,6 @@
 use Prim.Native.Nat.{◌+◌}
 use lib.Dec.{ltb}
 use native.Mathlib.Omega.{arith}
-use borrow.Author.Rules.{rules}
 use borrow.Author.Tests.{eq-eqb, ne_eqb, ltb-false}
 use Rattle.laws.proofs.Cases.{neither}
 use Rattle.plan.specs.Plan.{address_bits, past_keystream, planned_pieces}

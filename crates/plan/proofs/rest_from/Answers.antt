@@ -1,5 +1,4 @@
 -- `plan::rest_from` meets its contract. Assumes nothing.
-use borrow.Author.Rules.{rules}
 use borrow.Author.Tests.{lt-ltb, le-ltb}
 use Rattle.plan.proofs.rest_from.Goals as goal
 

@@ -1,5 +1,4 @@
 -- `reading::further`: by the tests that led to each answer. Assumes nothing.
-use borrow.Author.Rules.{rules}
 use borrow.Author.Tests.{lt-ltb, le-ltb}
 use Rattle.reading.proofs.further.Goals as goal
 

@@ -3,11 +3,8 @@ use mathlib.Core.Bool.{true}
 use mathlib.Core.Path.{◌≡◌, refl, sym, ap, ◌∙◌}
 use Prim.Native.Nat.{◌-◌}
 use native.Mathlib.Omega.{arith}
-use lib.ListN.{length, get_or}
-use borrow.Author.Rules.{rules}
-use borrow.Author.Tests.{not-true, not-false}
-use Rattle.forms.specs.Form.{read_at}
-use Rattle.forms.specs.Decimals.{may_follow, after}
+use lib.ListN.{get_or}
+use Rattle.forms.specs.Decimals.{may_follow}
 use Rattle.reading.specs.Reading.{answer}
 use Rattle.forms.proofs.Decimals.{follow-is}
 use Rattle.reading.proofs.Steps.{after-end, after-lf, after-no, after-digit}

@@ -1,8 +1,6 @@
 -- `reading::read_decimal`: the first digit, and then as `read_after` reads. Assumes nothing.
 use mathlib.Core.Path.{sym, ap, ◌∙◌}
 use native.Mathlib.Omega.{arith}
-use borrow.Author.Rules.{rules}
-use borrow.Author.Tests.{not-true, not-false}
 use Rattle.forms.specs.Decimals.{decimal}
 use Rattle.reading.specs.Reading.{answer}
 use Rattle.forms.proofs.Decimals.{begin-is}

@@ -1,6 +1,5 @@
 -- `reading::read_line`: the name, and then the number. Assumes nothing.
 use mathlib.Core.Path.{sym, ap, ◌∙◌}
-use borrow.Author.Rules.{rules}
 use Rattle.reading.specs.Reading.{answer}
 use Rattle.reading.proofs.Steps.{on_then}
 use Rattle.reading.proofs.read_line.Goals as goal

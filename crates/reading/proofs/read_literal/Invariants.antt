@@ -1,12 +1,8 @@
 -- `reading::read_literal`: what is to be answered stays the same with each byte. Assumes nothing.
-use mathlib.Core.Path.{◌≡◌, refl, sym, ap, ◌∙◌}
+use mathlib.Core.Path.{◌≡◌}
 use Prim.Native.Nat.{◌≤◌, ◌-◌}
-use native.Mathlib.Omega.{arith}
 use lib.ListN.{length, drop}
-use borrow.Author.Rules.{rules}
 use Rattle.forms.specs.Form.{read_at, literal}
-use Rattle.reading.specs.Reading.{answer}
-use Rattle.reading.proofs.Steps.{on-wrong, on-good, literal-all, literal-end, literal-no, literal-yes}
 use Rattle.reading.proofs.read_literal.Given as goal
 
 abbrev pub invariant-loop-i : goal.invariant-loop-i

@@ -1,6 +1,5 @@
 -- `reading::read_word`: the bytes, and then the value. Assumes nothing.
 use mathlib.Core.Path.{sym, ap, ◌∙◌}
-use borrow.Author.Rules.{rules}
 use Rattle.reading.specs.Reading.{answer}
 use Rattle.reading.proofs.Steps.{on-wrong, on-good, on_then, step-done}
 use Rattle.reading.proofs.read_word.Goals as goal

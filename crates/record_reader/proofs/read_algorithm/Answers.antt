@@ -1,5 +1,4 @@
 -- `record_reader::read_algorithm`: the names of the algorithms. Assumes nothing.
-use borrow.Author.Rules.{rules}
 use Rattle.record_reader.specs.Lines.{algorithm_form}
 use Rattle.record_reader.proofs.read_algorithm.Goals as goal
 

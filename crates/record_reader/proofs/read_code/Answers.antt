@@ -1,5 +1,4 @@
 -- `record_reader::read_code`: the line, where there has to be one. Assumes nothing.
-use borrow.Author.Rules.{rules}
 use Rattle.forms.specs.Form.{literal}
 use Rattle.record_reader.proofs.read_code.Goals as goal
 

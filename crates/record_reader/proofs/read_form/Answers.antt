@@ -1,7 +1,5 @@
 -- `record_reader::read_form`: the line, where there has to be one. Assumes nothing.
 use mathlib.Core.Path.{ap, ◌∙◌}
-use borrow.Author.Rules.{rules}
-use borrow.Author.Tests.{not-true, not-false}
 use Rattle.writing.specs.Text.{ascii}
 use Rattle.forms.specs.Form.{literal}
 use Rattle.reading.specs.declared.Reading.{Reading}

@@ -1,14 +1,12 @@
 -- `record_reader::read_key`: what is to be answered stays the same with each byte. Assumes nothing.
-use mathlib.Core.Path.{◌≡◌, refl, sym, ap, ◌∙◌}
-use Prim.Native.Nat.{◌≤◌, ◌<◌, ◌-◌}
+use mathlib.Core.Path.{refl, sym, ap, ◌∙◌}
+use Prim.Native.Nat.{◌<◌, ◌-◌}
 use native.Mathlib.Omega.{arith}
-use lib.ListN.{length, take, length-set}
-use borrow.Author.Rules.{rules}
+use lib.ListN.{length-set}
 use Rattle.forms.specs.Hexes.{byte}
 use Rattle.record_reader.specs.Lines.{key_form, key_answer}
-use Rattle.reading.specs.Reading.{onward}
 use Rattle.forms.proofs.Hexes.{byte-means}
-use Rattle.record_reader.proofs.Keys.{key_rest, key_more, key-all}
+use Rattle.record_reader.proofs.Keys.{key_more, key-all}
 use Rattle.reading.proofs.Steps.{on-wrong, on-good, on_then, on_value, step-done}
 use Rattle.record_reader.proofs.read_key.Goals as goal
 

@@ -4,13 +4,10 @@ use mathlib.Core.Bool.{Bool, true, false, not}
 use mathlib.Core.List.{List}
 use Prim.Native.Nat.{ℕ, zero-le}
 use native.Mathlib.Omega.{arith}
-use borrow.Author.Rules.{rules}
 use Rattle.laws.proofs.Cases.{pick-taken, pick-left}
 use Rattle.laws.specs.Choice.{pick}
-use Rattle.forms.specs.Form.{found, wrong, read_at, line}
-use Rattle.forms.specs.Decimals.{decimal}
-use Rattle.reading.specs.Reading.{onward, answer}
-use Rattle.record_reader.specs.Record.{Entry, record_form, starts_form, read_answer, record_read}
+use Rattle.forms.specs.Form.{found, wrong, read_at}
+use Rattle.record_reader.specs.Record.{Entry, record_form, read_answer, record_read}
 use Rattle.forms.proofs.Forms.{spelt, stops, stop-within}
 use Rattle.record_reader.proofs.Records.{Small, small, record-means, lines-read}
 use Rattle.record_reader.proofs.read_record.Goals as goal

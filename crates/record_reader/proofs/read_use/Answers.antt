@@ -1,5 +1,4 @@
 -- `record_reader::read_use`: the words of the uses. Assumes nothing.
-use borrow.Author.Rules.{rules}
 use Rattle.record_reader.specs.Lines.{use_form}
 use Rattle.record_reader.proofs.read_use.Goals as goal
 

@@ -1,5 +1,4 @@
 -- `record_reader::refused_at`: line and column are those that `line_of` and `column_of` find. Assumes nothing.
-use borrow.Author.Rules.{rules}
 use Rattle.refusals.specs.Numbers.{record_text_bad}
 use Rattle.record_reader.specs.Lines.{no_key}
 use Rattle.fields.specs.Fields.{no_fields}

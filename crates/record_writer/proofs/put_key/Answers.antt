@@ -1,5 +1,4 @@
 -- `record_writer::put_key`: the name, the bytes, LF. Assumes nothing.
-use borrow.Author.Rules.{rules}
 use Rattle.writing.proofs.Puts.{put_then, put-length, room-first, room-then}
 use Rattle.record_writer.proofs.put_key.Goals as goal
 

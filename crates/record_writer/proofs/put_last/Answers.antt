@@ -1,5 +1,4 @@
 -- `record_writer::put_last`: line after line, each with room for it and those that follow. Assumes nothing.
-use borrow.Author.Rules.{rules}
 use Rattle.writing.proofs.Puts.{put_then, put-length, room-first, room-then}
 use Rattle.record_writer.proofs.put_last.Goals as goal
 

@@ -1,6 +1,5 @@
 -- `record_writer::put_record`: line after line, each with room for it and those that follow. Assumes nothing.
 use mathlib.Core.Path.{sym, ap}
-use borrow.Author.Rules.{rules}
 use Rattle.writing.specs.Text.{line_text}
 use Rattle.record_text.specs.Text.{lines_text, form_text}
 use Rattle.writing.proofs.Puts.{put_then, put-length, put_as, room-first, room-then, room_as}

@@ -1,7 +1,6 @@
 -- `record_writer::text_length`: few digits, so the sum fits. Assumes nothing.
 use Prim.Native.Nat.{◌+◌, ◌≤◌}
 use native.Mathlib.Omega.{arith}
-use borrow.Author.Rules.{rules}
 use Rattle.writing.proofs.Digits.{digits-fit}
 use Rattle.record_writer.proofs.text_length.Goals as goal
 

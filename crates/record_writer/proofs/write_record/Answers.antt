@@ -1,5 +1,4 @@
 -- `record_writer::write_record`: the text is put where nothing refuses it. Assumes nothing.
-use borrow.Author.Rules.{rules}
 use Rattle.writing.proofs.Puts.{put-length}
 use Rattle.record_writer.proofs.Refusals.{refused, room, written}
 use Rattle.record_writer.proofs.write_record.Goals as goal

@@ -4,7 +4,6 @@ use mathlib.Core.Bool.{not}
 use mathlib.Core.Path.{sym, ap, ◌∙◌}
 use Prim.Native.Nat.{ℕ}
 use lib.ListN.{length}
-use borrow.Author.Rules.{rules}
 use Rattle.laws.specs.Choice.{pick}
 use Rattle.refusals.specs.Numbers.{slot_number_bad, algorithm_unknown}
 use Rattle.fields.specs.Fields.{is_slot_number, is_algorithm, rights_refusal, stored_of}

@@ -1,6 +1,5 @@
 -- `rights::lies_within`: by what the two tests ensure. Assumes nothing.
 use mathlib.Core.Path.{sym, ◌∙◌}
-use borrow.Author.Rules.{rules}
 use Rattle.rights.proofs.lies_within.Goals as goal
 
 pub returns-then-is_use : goal.returns-then-is_use

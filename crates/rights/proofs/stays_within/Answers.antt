@@ -1,5 +1,4 @@
 -- `rights::stays_within`: by what its two callees ensure. Assumes nothing.
-use borrow.Author.Rules.{rules}
 use Rattle.rights.proofs.stays_within.Goals as goal
 
 pub returns : goal.returns

@@ -1,11 +1,10 @@
 -- `rijndael::encrypt`: t is, as a state, rounds 1 to n - 1 of what the loop began with. Assumes nothing.
 use mathlib.Core.Path.{◌≡◌, refl, ap, ◌∙◌}
-use Prim.Native.Nat.{◌-◌, ◌≤◌}
+use Prim.Native.Nat.{◌-◌}
 use native.Mathlib.Omega.{arith}
 use borrow.Author.Rules.{rules}
 use Rattle.rijndael.specs.Cipher.{rounds, encrypted}
 use Rattle.round_steps.specs.Steps.{round_of}
-use Rattle.rounds.specs.Columns.{of_words}
 use Rattle.rijndael.proofs.Rounds.{rounds-more}
 use Rattle.rijndael.proofs.encrypt.Goals as goal
 

@@ -1,12 +1,8 @@
 -- `rijndael::encrypt`: t is, as a state, rounds 1 to n - 1 of what the loop began with. Assumes nothing.
-use mathlib.Core.Path.{◌≡◌, refl, ap, ◌∙◌}
+use mathlib.Core.Path.{◌≡◌}
 use Prim.Native.Nat.{◌-◌, ◌≤◌}
-use native.Mathlib.Omega.{arith}
-use borrow.Author.Rules.{rules}
-use Rattle.rijndael.specs.Cipher.{rounds, encrypted}
-use Rattle.round_steps.specs.Steps.{round_of}
+use Rattle.rijndael.specs.Cipher.{rounds}
 use Rattle.rounds.specs.Columns.{of_words}
-use Rattle.rijndael.proofs.Rounds.{rounds-more}
 use Rattle.rijndael.proofs.encrypt.Given as goal
 
 abbrev pub invariant-loop-n : goal.invariant-loop-n

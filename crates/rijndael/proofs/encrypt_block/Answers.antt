@@ -1,5 +1,4 @@
 -- `rijndael::encrypt_block`: by the callees' contracts. Assumes nothing.
-use borrow.Author.Rules.{rules}
 use Rattle.rijndael.proofs.encrypt_block.Goals as goal
 
 pub returns : goal.returns

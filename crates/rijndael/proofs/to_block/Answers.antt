@@ -1,10 +1,9 @@
 -- `rijndael::to_block`: four entries a turn, `Filled`. Assumes nothing.
 use mathlib.Core.Path.{refl}
-use Prim.Native.Nat.{◌-◌, ◌*◌, ◌/◌, ◌%◌, ◌<◌}
+use Prim.Native.Nat.{◌-◌, ◌<◌}
 use borrow.Author.Rules.{rules}
 use Rattle.rijndael.specs.Cipher.{to_block}
 use Rattle.laws.proofs.Lists.{fill_none, fill-all}
-use Rattle.laws.specs.Lists.{cell, Filled}
 use Rattle.rijndael.proofs.Rounds.{quarter-more}
 use Rattle.rijndael.proofs.to_block.Goals as goal
 

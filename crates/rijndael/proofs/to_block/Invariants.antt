@@ -1,11 +1,6 @@
 -- `rijndael::to_block`: four entries a turn, `Filled`. Assumes nothing.
-use mathlib.Core.Path.{refl}
-use Prim.Native.Nat.{◌-◌, ◌*◌, ◌/◌, ◌%◌, ◌<◌}
-use borrow.Author.Rules.{rules}
-use Rattle.rijndael.specs.Cipher.{to_block}
-use Rattle.laws.proofs.Lists.{fill_none, fill-all}
+use Prim.Native.Nat.{◌-◌, ◌*◌, ◌/◌, ◌%◌}
 use Rattle.laws.specs.Lists.{cell, Filled}
-use Rattle.rijndael.proofs.Rounds.{quarter-more}
 use Rattle.rijndael.proofs.to_block.Given as goal
 
 abbrev pub invariant-loop-c : goal.invariant-loop-c

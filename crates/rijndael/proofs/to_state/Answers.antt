@@ -1,11 +1,10 @@
 -- `rijndael::to_state`: column by column, `Columns`. Assumes nothing.
 use mathlib.Core.Path.{refl, sym, ap}
-use Prim.Native.Nat.{ℕ, ◌+◌, ◌-◌, ◌*◌}
+use Prim.Native.Nat.{ℕ, ◌-◌, ◌*◌}
 use native.Mathlib.Nat.{add-zero}
-use borrow.Author.Rules.{rules}
 use lib.ListN.{get_or}
 use Rattle.rijndael.specs.Cipher.{to_state}
-use Rattle.laws.proofs.States.{Columns, columns-none, columns-more, columns-all, zero-shape}
+use Rattle.laws.proofs.States.{columns-none, columns-more, columns-all, zero-shape}
 use Rattle.rijndael.proofs.to_state.Goals as goal
 
 pub loop-c-init : goal.loop-c-init

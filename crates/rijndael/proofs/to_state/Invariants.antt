@@ -1,11 +1,7 @@
 -- `rijndael::to_state`: column by column, `Columns`. Assumes nothing.
-use mathlib.Core.Path.{refl, sym, ap}
-use Prim.Native.Nat.{ℕ, ◌+◌, ◌-◌, ◌*◌}
-use native.Mathlib.Nat.{add-zero}
-use borrow.Author.Rules.{rules}
+use Prim.Native.Nat.{◌+◌, ◌-◌, ◌*◌}
 use lib.ListN.{get_or}
-use Rattle.rijndael.specs.Cipher.{to_state}
-use Rattle.laws.proofs.States.{Columns, columns-none, columns-more, columns-all, zero-shape}
+use Rattle.laws.proofs.States.{Columns}
 use Rattle.rijndael.proofs.to_state.Given as goal
 
 abbrev pub invariant-loop-c : goal.invariant-loop-c

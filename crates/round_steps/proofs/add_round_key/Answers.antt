@@ -1,13 +1,10 @@
 -- `round_steps::add_round_key`: column by column, `Columns`. Assumes nothing.
 use mathlib.Core.Path.{ap}
-use Prim.Native.Nat.{◌+◌, ◌-◌, ◌*◌}
-use borrow.Author.Rules.{rules}
+use Prim.Native.Nat.{◌-◌}
 use lib.Bits.{bit_xor}
-use lib.ListN.{get_or}
 use Rattle.round_steps.specs.Steps.{add_round_key}
-use Rattle.laws.proofs.States.{Columns, columns-none, columns-more, columns-all, state-shape}
+use Rattle.laws.proofs.States.{columns-none, columns-more, columns-all, state-shape}
 use Rattle.laws.specs.Lists.{cell}
-use Rattle.words.specs.Words.{byte_of}
 use Rattle.round_steps.proofs.add_round_key.Goals as goal
 
 pub loop-c-init : goal.loop-c-init

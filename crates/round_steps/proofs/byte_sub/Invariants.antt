@@ -1,10 +1,7 @@
 -- `round_steps::byte_sub`: cell by cell. Assumes nothing.
 use Prim.Native.Nat.{◌-◌}
-use borrow.Author.Rules.{rules}
 use Rattle.gf256.specs.Field.{s_box}
-use Rattle.round_steps.specs.Steps.{byte_sub}
-use Rattle.laws.proofs.States.{state-shape}
-use Rattle.laws.proofs.InRows.{InRow, InRows, in-rows-none, in-row-none, in-row-more, in-rows-more, in-rows-all}
+use Rattle.laws.proofs.InRows.{InRow, InRows}
 use Rattle.laws.specs.Lists.{cell}
 use Rattle.round_steps.proofs.byte_sub.Given as goal
 

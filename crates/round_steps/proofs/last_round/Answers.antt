@@ -1,5 +1,4 @@
 -- `round_steps::last_round`: by the steps' own contracts. Assumes nothing.
-use borrow.Author.Rules.{rules}
 use Rattle.round_steps.proofs.last_round.Goals as goal
 
 pub returns : goal.returns

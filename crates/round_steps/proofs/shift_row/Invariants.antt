@@ -1,10 +1,7 @@
 -- `round_steps::shift_row`: column by column, `Columns`; row 0 is stored too, so that one law serves. Assumes nothing.
-use mathlib.Core.Path.{refl, ap}
 use Prim.Native.Nat.{◌+◌, ◌-◌, ◌%◌}
-use borrow.Author.Rules.{rules}
-use Rattle.round_steps.specs.Steps.{shift_of, shift_row}
-use Rattle.laws.proofs.States.{Columns, columns-none, columns-more, columns-all, state-shape}
-use Rattle.laws.proofs.InRows.{not-turned}
+use Rattle.round_steps.specs.Steps.{shift_of}
+use Rattle.laws.proofs.States.{Columns}
 use Rattle.laws.specs.Lists.{cell}
 use Rattle.round_steps.proofs.shift_row.Given as goal
 

@@ -1,8 +1,7 @@
 -- `rounds::round`: column by column, `by_half`: each is its mixed word with the key. Assumes nothing.
-use Prim.Native.Nat.{◌-◌, ◌*◌}
-use borrow.Author.Rules.{rules}
-use Rattle.laws.proofs.States.{Placed, place_none, state-shape}
-use Rattle.rounds.proofs.Columns.{by_half, rounded, small, fewer, round-more, round-all}
+use Prim.Native.Nat.{◌-◌}
+use Rattle.laws.proofs.States.{place_none, state-shape}
+use Rattle.rounds.proofs.Columns.{small, fewer, round-more, round-all}
 use Rattle.rounds.proofs.round.Goals as goal
 
 pub loop-e-init : goal.loop-e-init

@@ -1,5 +1,4 @@
 -- `schedule::expand_key`: the two loops, one after the other. Assumes nothing.
-use borrow.Author.Rules.{rules}
 use lib.Dec.{lit≤}
 use Rattle.laws.proofs.Lists.{fill-all}
 use Rattle.schedule.proofs.expand_key.Goals as goal

@@ -1,10 +1,9 @@
 -- `schedule::key_words`: `Filled` to 6. Assumes nothing.
 use mathlib.Core.Path.{◌∙◌}
-use Prim.Native.Nat.{◌-◌, ◌≤◌}
+use Prim.Native.Nat.{◌-◌}
 use borrow.Author.Rules.{rules}
-use Rattle.schedule.specs.Schedule.{packed, key_word}
+use Rattle.schedule.specs.Schedule.{packed}
 use Rattle.laws.proofs.Lists.{fill_none, fill_more, fill-to}
-use Rattle.laws.specs.Lists.{Filled}
 use Rattle.schedule.proofs.KeyWords.{word_first}
 use Rattle.schedule.proofs.key_words.Goals as goal
 

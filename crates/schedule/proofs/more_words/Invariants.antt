@@ -1,12 +1,9 @@
 -- `schedule::more_words`: `Filled` to 6 k, whatever the key, and `last` is word 6 k - 1. Assumes nothing.
 use mathlib.Core.List.{List}
-use mathlib.Core.Path.{◌≡◌, refl}
-use Prim.Native.Nat.{ℕ, ◌+◌, ◌-◌, ◌*◌, ◌≤◌}
-use native.Mathlib.Omega.{arith}
-use borrow.Author.Rules.{rules}
+use mathlib.Core.Path.{◌≡◌}
+use Prim.Native.Nat.{ℕ, ◌-◌, ◌*◌, ◌≤◌}
 use lib.ListN.{length, get_or}
 use Rattle.schedule.specs.Schedule.{key_word}
-use Rattle.laws.proofs.Lists.{fill-to}
 use Rattle.laws.specs.Lists.{Filled}
 use Rattle.schedule.proofs.more_words.Given as goal
 

@@ -2,7 +2,6 @@
 use mathlib.Core.Path.{refl, ap, ◌∙◌}
 use Prim.Native.Nat.{ℕ, ◌+◌, ◌-◌, ◌*◌}
 use native.Mathlib.Omega.{arith}
-use borrow.Author.Rules.{rules}
 use lib.Bits.{bit_xor}
 use lib.ListN.{get_or, set, length-set}
 use Rattle.schedule.specs.Schedule.{rot_byte, sub_byte, round_constant}

@@ -1,8 +1,5 @@
 -- `shares::gcd`: each step keeps the divisor. Assumes nothing.
-use mathlib.Core.Path.{◌≡◌, refl, sym, ◌∙◌}
-use native.Mathlib.Omega.{arith}
-use borrow.Author.Rules.{rules}
-use Rattle.shares.specs.Share.{gcd}
+use mathlib.Core.Path.{refl, sym, ◌∙◌}
 use Rattle.shares.proofs.Euclid.{gcd-none, gcd-next, rest-less}
 use Rattle.shares.proofs.gcd.Goals as goal
 

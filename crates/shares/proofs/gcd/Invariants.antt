@@ -1,9 +1,6 @@
 -- `shares::gcd`: each step keeps the divisor. Assumes nothing.
-use mathlib.Core.Path.{◌≡◌, refl, sym, ◌∙◌}
-use native.Mathlib.Omega.{arith}
-use borrow.Author.Rules.{rules}
+use mathlib.Core.Path.{◌≡◌}
 use Rattle.shares.specs.Share.{gcd}
-use Rattle.shares.proofs.Euclid.{gcd-none, gcd-next, rest-less}
 use Rattle.shares.proofs.gcd.Given as goal
 
 abbrev pub invariant-loop-y : goal.invariant-loop-y

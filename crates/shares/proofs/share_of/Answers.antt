@@ -1,12 +1,11 @@
 -- `shares::share_of`: by the test of the whole; the divisor of a whole above 0 is above 0. Assumes nothing.
-use mathlib.Core.Path.{◌≡◌, sym, subst, ap, ◌∙◌}
+use mathlib.Core.Path.{sym, subst, ap, ◌∙◌}
 use Prim.Native.Nat.{ℕ, ◌<◌, ◌/◌}
 use native.Mathlib.Nat.{pos_of_dvd_of_pos}
 use borrow.Author.Tests.{eq-eqb, ne_eqb}
-use Rattle.shares.specs.Share.{gcd, fraction_of, share_of}
+use Rattle.shares.specs.Share.{fraction_of, share_of}
 use Rattle.shares.proofs.Euclid.{gcd-divides}
 use Rattle.shares.proofs.Lowest.{positive_of}
-use borrow.Author.Rules.{rules}
 use Rattle.shares.proofs.share_of.Goals as goal
 
 pub returns-then-whole-eq0 : goal.returns-then-whole-eq0

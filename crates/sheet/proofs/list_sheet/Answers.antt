@@ -1,6 +1,5 @@
 -- `sheet::list_sheet`: the listing, where there is room for it. Assumes nothing.
 use mathlib.Core.Path.{refl, ap}
-use borrow.Author.Rules.{rules}
 use borrow.Author.Tests.{lt-ltb}
 use Rattle.writing.proofs.Puts.{put_as}
 use Rattle.sheet.specs.Sheet.{loaded_text, listing, listed_length, listed_buffer}

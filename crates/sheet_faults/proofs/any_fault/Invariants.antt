@@ -1,11 +1,8 @@
 -- `sheet_faults::any_fault`: what is to be answered stays the same with each line. Assumes nothing.
-use mathlib.Core.Path.{◌≡◌, refl, sym, ap, ◌∙◌}
+use mathlib.Core.Path.{◌≡◌}
 use Prim.Native.Nat.{◌-◌, ◌≤◌}
-use native.Mathlib.Omega.{arith}
 use lib.ListN.{length, drop}
-use borrow.Author.Rules.{rules}
 use Rattle.sheet_faults.specs.Sheet.{lines_of, any_fault}
-use Rattle.sheet_faults.proofs.Lines.{lines_end, fault-here, fault-on}
 use Rattle.sheet_faults.proofs.any_fault.Given as goal
 
 abbrev pub invariant-loop-at : goal.invariant-loop-at

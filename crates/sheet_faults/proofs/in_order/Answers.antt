@@ -1,9 +1,8 @@
 -- `sheet_faults::in_order`: what is to be answered stays the same with each line. Assumes nothing.
-use mathlib.Core.Path.{◌≡◌, refl, sym, ap, ◌∙◌}
-use Prim.Native.Nat.{ℕ, ◌-◌, ◌+◌, ◌≤◌}
+use mathlib.Core.Path.{refl, sym, ap, ◌∙◌}
+use Prim.Native.Nat.{ℕ, ◌-◌, ◌+◌}
 use native.Mathlib.Omega.{arith}
-use lib.ListN.{length, drop}
-use borrow.Author.Rules.{rules}
+use lib.ListN.{drop}
 use Rattle.line_parts.specs.Line.{name_in}
 use Rattle.line_names.proofs.Same.{number-most}
 use Rattle.sheet_faults.specs.Sheet.{lines_of, in_order_from}

@@ -1,13 +1,8 @@
 -- `sheet_faults::in_order`: what is to be answered stays the same with each line. Assumes nothing.
-use mathlib.Core.Path.{◌≡◌, refl, sym, ap, ◌∙◌}
-use Prim.Native.Nat.{ℕ, ◌-◌, ◌+◌, ◌≤◌}
-use native.Mathlib.Omega.{arith}
+use mathlib.Core.Path.{◌≡◌}
+use Prim.Native.Nat.{◌-◌, ◌≤◌}
 use lib.ListN.{length, drop}
-use borrow.Author.Rules.{rules}
-use Rattle.line_parts.specs.Line.{name_in}
-use Rattle.line_names.proofs.Same.{number-most}
 use Rattle.sheet_faults.specs.Sheet.{lines_of, in_order_from}
-use Rattle.sheet_faults.proofs.Lines.{lines_end, order-here, order-on}
 use Rattle.sheet_faults.proofs.in_order.Given as goal
 
 abbrev pub invariant-loop-at : goal.invariant-loop-at

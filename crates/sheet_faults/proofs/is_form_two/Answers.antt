@@ -1,7 +1,6 @@
 -- `sheet_faults::is_form_two`: by the lines that are named so. Assumes nothing.
 use mathlib.Core.Path.{ap}
 use lib.Dec.{ltb}
-use borrow.Author.Rules.{rules}
 use Rattle.sheet_faults.specs.Sheet.{is_form_two}
 use Rattle.sheet_faults.proofs.is_form_two.Goals as goal
 

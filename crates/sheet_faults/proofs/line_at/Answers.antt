@@ -1,6 +1,5 @@
 -- `sheet_faults::line_at`: what is before the next LF. Assumes nothing.
 use native.Mathlib.Omega.{arith}
-use borrow.Author.Rules.{rules}
 use Rattle.writing.specs.Text.{lf}
 use Rattle.lines.proofs.Pieces.{index-within}
 use Rattle.sheet_faults.proofs.line_at.Goals as goal

@@ -1,10 +1,9 @@
 -- `sheet_faults::names_right`: what is to be answered stays the same with each name. Assumes nothing.
-use mathlib.Core.Path.{◌≡◌, refl, sym, ap, ◌∙◌}
+use mathlib.Core.Path.{sym, ap, ◌∙◌}
 use mathlib.Core.Bool.{Bool}
 use Prim.Native.Nat.{◌-◌, ◌+◌}
 use native.Mathlib.Omega.{arith}
-use borrow.Author.Rules.{rules}
-use borrow.Author.Tests.{eqb-true, eqb-false, not-true, not-false}
+use borrow.Author.Tests.{eqb-true, eqb-false}
 use Rattle.line_names.specs.Names.{name_count}
 use Rattle.sheet_faults.specs.Sheet.{lines_of, names_right_from, names_right}
 use Rattle.sheet_faults.proofs.Lines.{names-on, names-wrong, names-all}

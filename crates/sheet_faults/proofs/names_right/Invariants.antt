@@ -1,13 +1,8 @@
 -- `sheet_faults::names_right`: what is to be answered stays the same with each name. Assumes nothing.
-use mathlib.Core.Path.{◌≡◌, refl, sym, ap, ◌∙◌}
-use mathlib.Core.Bool.{Bool}
+use mathlib.Core.Path.{◌≡◌}
 use Prim.Native.Nat.{◌-◌, ◌+◌}
-use native.Mathlib.Omega.{arith}
-use borrow.Author.Rules.{rules}
-use borrow.Author.Tests.{eqb-true, eqb-false, not-true, not-false}
 use Rattle.line_names.specs.Names.{name_count}
 use Rattle.sheet_faults.specs.Sheet.{lines_of, names_right_from, names_right}
-use Rattle.sheet_faults.proofs.Lines.{names-on, names-wrong, names-all}
 use Rattle.sheet_faults.proofs.names_right.Given as goal
 
 abbrev pub invariant-loop-k : goal.invariant-loop-k

@@ -1,9 +1,8 @@
 -- `sheet_faults::next_line`: after the line and its LF. Assumes nothing.
 use mathlib.Core.Path.{◌≡◌, ap, ◌∙◌}
-use Prim.Native.Nat.{◌+◌, ◌<◌, ◌≤◌}
+use Prim.Native.Nat.{◌+◌}
 use native.Mathlib.Omega.{arith}
 use lib.ListN.{drop}
-use borrow.Author.Rules.{rules}
 use Rattle.writing.specs.Text.{lf}
 use Rattle.lines.specs.Line.{piece_length}
 use Rattle.sheet_faults.proofs.Lines.{next-after, next-within}

@@ -1,8 +1,7 @@
 -- `sheet_faults::sheet_bad`: by the length, the last byte and the names. Assumes nothing.
 use mathlib.Core.Path.{sym, ap, ◌∙◌}
 use mathlib.Core.Bool.{not}
-use borrow.Author.Rules.{rules}
-use borrow.Author.Tests.{lt-ltb, le-ltb, not-true, not-false}
+use borrow.Author.Tests.{lt-ltb, le-ltb}
 use Rattle.sheet_faults.specs.Sheet.{most_bytes, sheet_bad}
 use Rattle.sheet_faults.proofs.sheet_bad.Goals as goal
 

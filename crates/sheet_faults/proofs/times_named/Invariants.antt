@@ -1,14 +1,8 @@
 -- `sheet_faults::times_named`: the lines passed, and those that are left. Assumes nothing.
-use mathlib.Core.Path.{◌≡◌, refl, sym, ap, ◌∙◌}
-use Prim.Native.Nat.{ℕ, ◌-◌, ◌+◌, ◌≤◌}
-use native.Mathlib.Omega.{arith}
-use lib.Dec.{eqb}
+use mathlib.Core.Path.{◌≡◌}
+use Prim.Native.Nat.{◌-◌, ◌+◌, ◌≤◌}
 use lib.ListN.{length, drop}
-use borrow.Author.Rules.{rules}
-use Rattle.laws.specs.Choice.{pick}
-use Rattle.line_names.specs.Names.{number_in}
 use Rattle.sheet_faults.specs.Sheet.{lines_of, times_named}
-use Rattle.sheet_faults.proofs.Lines.{lines_end, times-on, at_most_one}
 use Rattle.sheet_faults.proofs.times_named.Given as goal
 
 abbrev pub invariant-loop-at : goal.invariant-loop-at

@@ -1,11 +1,9 @@
 -- `sheet_faults::value_named`: what is to be answered stays the same with each line. Assumes nothing.
-use mathlib.Core.Path.{◌≡◌, refl, sym, ap, ◌∙◌}
-use Prim.Native.Nat.{◌-◌, ◌≤◌}
+use mathlib.Core.Path.{refl, sym, ap, ◌∙◌}
+use Prim.Native.Nat.{◌-◌}
 use native.Mathlib.Omega.{arith}
-use lib.ListN.{length, drop}
 use lib.Seq.{drop-length}
-use borrow.Author.Rules.{rules}
-use Rattle.sheet_faults.specs.Sheet.{lines_of, value_named}
+use Rattle.sheet_faults.specs.Sheet.{value_named}
 use Rattle.sheet_faults.proofs.Lines.{lines_end, value-here, value_on}
 use Rattle.sheet_faults.proofs.value_named.Goals as goal
 

@@ -1,5 +1,4 @@
 -- `slot_calls::clear_refusal`: a bad table first, then what the slot's number meets. Assumes nothing.
-use borrow.Author.Rules.{rules}
 use Rattle.slot_calls.specs.Calls.{clear_refusal_of}
 use Rattle.slot_calls.proofs.clear_refusal.Goals as goal
 

@@ -1,5 +1,4 @@
 -- `slot_calls::load_refusal`: each test is the definition's, and so is their order. Assumes nothing.
-use borrow.Author.Rules.{rules}
 use Rattle.slot_calls.specs.Calls.{load_refusal_of}
 use Rattle.slot_calls.proofs.load_refusal.Goals as goal
 

@@ -2,7 +2,6 @@
 use mathlib.Core.Bool.{Bool, true, false, ◌||◌, not}
 use mathlib.Core.Path.{◌≡◌, refl, ◌∙◌}
 use Prim.Native.Nat.{ℕ}
-use borrow.Author.Rules.{rules}
 use Rattle.refusals.specs.Numbers.{slot_number_bad, table_bad, refuse}
 use Rattle.fields.specs.Fields.{is_slot_number}
 use Rattle.slot_calls.specs.Calls.{move_refusal_of}

@@ -1,5 +1,4 @@
 -- `slot_calls::slot_refusal`: each test is the definition's, and so is their order. Assumes nothing.
-use borrow.Author.Rules.{rules}
 use Rattle.slot_calls.specs.Calls.{slot_refusal_of}
 use Rattle.slots.proofs.Tables.{keyless-empty}
 use Rattle.slot_calls.proofs.slot_refusal.Goals as goal

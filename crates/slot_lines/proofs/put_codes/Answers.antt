@@ -1,5 +1,4 @@
 -- `slot_lines::put_codes`: item after item, each with room for it and those that follow. Assumes nothing.
-use borrow.Author.Rules.{rules}
 use Rattle.writing.proofs.Puts.{put_then, put-length, room-first, room-then}
 use Rattle.slot_lines.proofs.put_codes.Goals as goal
 

@@ -2,7 +2,6 @@
 use mathlib.Core.Path.{◌≡◌, sym, ◌∙◌}
 use mathlib.Core.Bool.{true}
 use native.Mathlib.Omega.{arith}
-use borrow.Author.Rules.{rules}
 use Rattle.slots.specs.Slots.{is_filled}
 use Rattle.writing.proofs.Puts.{put_as, put-none}
 use Rattle.slot_lines.proofs.Lines.{filled-text, empty-text}

@@ -1,12 +1,8 @@
 -- `slot_lines::put_slots`: with each slot its text is no longer left. Assumes nothing.
 use Prim.Native.Nat.{◌≤◌, ◌+◌, ◌-◌, ◌*◌}
-use native.Mathlib.Omega.{arith}
-use borrow.Author.Rules.{rules}
 use lib.ListN.{drop}
-use Rattle.writing.proofs.Puts.{put-length}
 use Rattle.slot_lines.specs.Lines.{slot_lines, longest_line}
-use Rattle.writing.proofs.Left.{Left, left-all, left_as, left-next, left-none}
-use Rattle.slot_lines.proofs.Lines.{lines_next, lines_none}
+use Rattle.writing.proofs.Left.{Left}
 use Rattle.slot_lines.proofs.put_slots.Given as goal
 
 abbrev pub invariant-loop-i : goal.invariant-loop-i

@@ -1,5 +1,4 @@
 -- `slot_list::is_unfilled`: by the other test. Assumes nothing.
-use borrow.Author.Rules.{rules}
 use Rattle.slot_list.proofs.is_unfilled.Goals as goal
 
 pub returns : goal.returns

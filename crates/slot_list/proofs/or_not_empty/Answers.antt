@@ -1,5 +1,4 @@
 -- `slot_list::or_not_empty`: by the two tests. Assumes nothing.
-use borrow.Author.Rules.{rules}
 use Rattle.slot_list.proofs.or_not_empty.Goals as goal
 
 pub returns-else-bad : goal.returns-else-bad

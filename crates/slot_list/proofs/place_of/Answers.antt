@@ -1,8 +1,7 @@
 -- `slot_list::place_of`: by the two tests. Assumes nothing.
 use mathlib.Core.Bool.{true}
 use mathlib.Core.Path.{◌≡◌, sym, ◌∙◌}
-use borrow.Author.Rules.{rules}
-use borrow.Author.Tests.{eq-eqb, ne_eqb, not-true, not-false}
+use borrow.Author.Tests.{eq-eqb, ne_eqb}
 use Rattle.fields.specs.Fields.{is_slot_number}
 use Rattle.fields.proofs.Ranges.{between-low}
 use Rattle.slot_list.proofs.place_of.Goals as goal

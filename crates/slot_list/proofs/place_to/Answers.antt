@@ -1,5 +1,4 @@
 -- `slot_list::place_to`: by the refusal. Assumes nothing.
-use borrow.Author.Rules.{rules}
 use borrow.Author.Tests.{eq-eqb, ne_eqb}
 use Rattle.slot_list.proofs.place_to.Goals as goal
 

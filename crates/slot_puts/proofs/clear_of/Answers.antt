@@ -1,5 +1,4 @@
 -- `slot_puts::clear_of`: by what is called. Assumes nothing.
-use borrow.Author.Rules.{rules}
 use Rattle.slot_puts.proofs.clear_of.Goals as goal
 
 pub returns : goal.returns

@@ -1,5 +1,4 @@
 -- `slot_puts::emptied`: by what is called. Assumes nothing.
-use borrow.Author.Rules.{rules}
 use Rattle.slot_puts.proofs.emptied.Goals as goal
 
 pub returns : goal.returns

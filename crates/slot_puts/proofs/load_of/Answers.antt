@@ -1,6 +1,5 @@
 -- `slot_puts::load_of`: what was not refused can be stored. Assumes nothing.
 use mathlib.Core.Path.{sym, ◌∙◌}
-use borrow.Author.Rules.{rules}
 use borrow.Author.Tests.{ne_eqb}
 use Rattle.slot_calls.proofs.Passed.{load-passed-of}
 use Rattle.slot_puts.proofs.load_of.Goals as goal

@@ -1,5 +1,4 @@
 -- `slot_puts::move_of`: what is not refused can be carried. Assumes nothing.
-use borrow.Author.Rules.{rules}
 use borrow.Author.Tests.{ne_eqb}
 use Rattle.slot_puts.proofs.move_of.Goals as goal
 

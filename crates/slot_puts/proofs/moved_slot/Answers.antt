@@ -1,6 +1,5 @@
 -- `slot_puts::moved_slot`: a use that stays within another is a use, and fits a byte. Assumes nothing.
 use native.Mathlib.Omega.{arith}
-use borrow.Author.Rules.{rules}
 use Rattle.laws.proofs.Cases.{and_left}
 use Rattle.fields.specs.Fields.{is_use}
 use Rattle.fields.proofs.Ranges.{between-high}

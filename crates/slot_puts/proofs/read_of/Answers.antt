@@ -1,5 +1,4 @@
 -- `slot_puts::read_of`: a refusal shows zeros. Assumes nothing.
-use borrow.Author.Rules.{rules}
 use borrow.Author.Tests.{ne_eqb}
 use Rattle.slot_puts.proofs.read_of.Goals as goal
 

@@ -1,11 +1,7 @@
 -- `slots::all_zero`: the bytes passed are all zero where their join is. Assumes nothing.
-use mathlib.Core.Bool.{◌&&◌}
-use mathlib.Core.Path.{◌≡◌, sym, ◌∙◌}
-use Prim.Native.Nat.{◌≤◌, ◌-◌}
+use mathlib.Core.Path.{sym, ◌∙◌}
+use Prim.Native.Nat.{◌-◌}
 use borrow.Author.Rules.{rules}
-use lib.Dec.{eqb}
-use lib.ListN.{drop}
-use Rattle.slots.specs.Slots.{all_zero}
 use Rattle.slots.proofs.Zeros.{zeros-more, zeros-all}
 use Rattle.slots.proofs.all_zero.Goals as goal
 

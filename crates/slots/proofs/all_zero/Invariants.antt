@@ -1,12 +1,10 @@
 -- `slots::all_zero`: the bytes passed are all zero where their join is. Assumes nothing.
 use mathlib.Core.Bool.{◌&&◌}
-use mathlib.Core.Path.{◌≡◌, sym, ◌∙◌}
+use mathlib.Core.Path.{◌≡◌}
 use Prim.Native.Nat.{◌≤◌, ◌-◌}
-use borrow.Author.Rules.{rules}
 use lib.Dec.{eqb}
 use lib.ListN.{drop}
 use Rattle.slots.specs.Slots.{all_zero}
-use Rattle.slots.proofs.Zeros.{zeros-more, zeros-all}
 use Rattle.slots.proofs.all_zero.Given as goal
 
 abbrev pub invariant-loop-i : goal.invariant-loop-i

@@ -1,7 +1,6 @@
 -- `slots::are_filled`: by what the two tests ensure of the fields as a caller would ask for them. Assumes nothing.
 use mathlib.Core.Path.{sym, ap, ◌∙◌}
 use Prim.Native.Nat.{ℕ}
-use borrow.Author.Rules.{rules}
 use lib.Dec.{eqb}
 use Rattle.refusals.specs.Numbers.{done}
 use Rattle.slots.specs.Slots.{keyless}

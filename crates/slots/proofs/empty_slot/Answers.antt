@@ -1,5 +1,4 @@
 -- `slots::empty_slot`: 24 zeros beside the zero fields. Assumes nothing.
-use borrow.Author.Rules.{rules}
 use Rattle.slots.proofs.empty_slot.Goals as goal
 
 pub returns : goal.returns

@@ -1,5 +1,4 @@
 -- `slots::empty_table`: by what `empty_slot` ensures. Assumes nothing.
-use borrow.Author.Rules.{rules}
 use Rattle.slots.proofs.empty_table.Goals as goal
 
 pub returns : goal.returns

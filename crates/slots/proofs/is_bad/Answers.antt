@@ -1,7 +1,6 @@
 -- `slots::is_bad`: by what the two tests ensure. Assumes nothing.
 use mathlib.Core.Bool.{not}
 use mathlib.Core.Path.{sym, ap, ◌∙◌}
-use borrow.Author.Rules.{rules}
 use Rattle.slots.specs.Slots.{is_bad}
 use Rattle.slots.proofs.is_bad.Goals as goal
 

@@ -1,6 +1,5 @@
 -- `slots::is_empty`: by what the two tests ensure. Assumes nothing.
 use mathlib.Core.Path.{sym, ◌∙◌}
-use borrow.Author.Rules.{rules}
 use Rattle.slots.specs.Slots.{is_empty}
 use Rattle.slots.proofs.is_empty.Goals as goal
 

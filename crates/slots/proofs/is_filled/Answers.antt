@@ -1,5 +1,4 @@
 -- `slots::is_filled`: by the fields. Assumes nothing.
-use borrow.Author.Rules.{rules}
 use Rattle.slots.specs.Slots.{is_filled}
 use Rattle.slots.proofs.is_filled.Goals as goal
 

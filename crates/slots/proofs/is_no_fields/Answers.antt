@@ -1,7 +1,6 @@
 -- `slots::is_no_fields`: numbers are zero where their join is. Assumes nothing.
 use mathlib.Core.Bool.{◌&&◌, Bool}
 use mathlib.Core.Path.{◌≡◌, sym, ap, ◌∙◌}
-use Prim.Native.Nat.{ℕ}
 use lib.Dec.{eqb}
 use lib.Bits.{bit_or}
 use borrow.Author.Tests.{eq-eqb, ne_eqb}

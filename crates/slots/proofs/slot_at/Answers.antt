@@ -1,5 +1,4 @@
 -- `slots::slot_at`: by what `index_of` ensures. Assumes nothing.
-use borrow.Author.Rules.{rules}
 use Rattle.slots.proofs.slot_at.Goals as goal
 
 pub returns : goal.returns

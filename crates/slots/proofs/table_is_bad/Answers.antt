@@ -1,9 +1,7 @@
 -- `slots::table_is_bad`: no slot that was passed is bad. Assumes nothing.
-use mathlib.Core.Path.{◌≡◌, sym, ◌∙◌}
-use Prim.Native.Nat.{◌≤◌, ◌-◌}
+use mathlib.Core.Path.{sym, ◌∙◌}
+use Prim.Native.Nat.{◌-◌}
 use borrow.Author.Rules.{rules}
-use lib.ListN.{drop}
-use Rattle.slots.specs.Slots.{has_bad}
 use Rattle.slots.proofs.Tables.{bad-next, bad-none}
 use Rattle.slots.proofs.table_is_bad.Goals as goal
 

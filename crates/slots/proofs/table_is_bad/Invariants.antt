@@ -1,10 +1,8 @@
 -- `slots::table_is_bad`: no slot that was passed is bad. Assumes nothing.
-use mathlib.Core.Path.{◌≡◌, sym, ◌∙◌}
+use mathlib.Core.Path.{◌≡◌}
 use Prim.Native.Nat.{◌≤◌, ◌-◌}
-use borrow.Author.Rules.{rules}
 use lib.ListN.{drop}
 use Rattle.slots.specs.Slots.{has_bad}
-use Rattle.slots.proofs.Tables.{bad-next, bad-none}
 use Rattle.slots.proofs.table_is_bad.Given as goal
 
 abbrev pub invariant-loop-i : goal.invariant-loop-i

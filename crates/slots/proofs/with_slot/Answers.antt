@@ -1,5 +1,4 @@
 -- `slots::with_slot`: by what `index_of` ensures. Assumes nothing.
-use borrow.Author.Rules.{rules}
 use Rattle.slots.proofs.with_slot.Goals as goal
 
 pub returns : goal.returns

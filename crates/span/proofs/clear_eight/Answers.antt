@@ -1,6 +1,5 @@
 -- The last bits of one byte and the first bits of the next are cleared. Assumes nothing.
 use native.Mathlib.Omega.{arith}
-use borrow.Author.Rules.{rules}
 use Rattle.span.proofs.Stores.{eight-cleared}
 use Rattle.span.proofs.clear_eight.Goals as goal
 

@@ -1,9 +1,9 @@
 -- Whole bytes become 0, and then the first bits of one more. Assumes nothing.
 use mathlib.Core.Path.{◌≡◌, sym, ap, ◌∙◌}
-use Prim.Native.Nat.{◌+◌, ◌-◌, ◌*◌, ◌/◌, ◌%◌, ◌≤◌}
+use Prim.Native.Nat.{◌+◌, ◌-◌, ◌*◌, ◌/◌, ◌%◌}
 use native.Mathlib.Omega.{arith}
 use borrow.Author.Rules.{rules}
-use lib.ListN.{length, length-set}
+use lib.ListN.{length-set}
 use Rattle.span.specs.Span.{zeroed, nought}
 use Rattle.span.proofs.Laws.{written_none}
 use Rattle.span.proofs.Stores.{cleared_more}

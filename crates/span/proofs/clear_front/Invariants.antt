@@ -1,12 +1,8 @@
 -- Whole bytes become 0, and then the first bits of one more. Assumes nothing.
-use mathlib.Core.Path.{◌≡◌, sym, ap, ◌∙◌}
-use Prim.Native.Nat.{◌+◌, ◌-◌, ◌*◌, ◌/◌, ◌%◌, ◌≤◌}
-use native.Mathlib.Omega.{arith}
-use borrow.Author.Rules.{rules}
-use lib.ListN.{length, length-set}
-use Rattle.span.specs.Span.{zeroed, nought}
-use Rattle.span.proofs.Laws.{written_none}
-use Rattle.span.proofs.Stores.{cleared_more}
+use mathlib.Core.Path.{◌≡◌}
+use Prim.Native.Nat.{◌-◌, ◌*◌, ◌≤◌}
+use lib.ListN.{length}
+use Rattle.span.specs.Span.{zeroed}
 use Rattle.span.proofs.clear_front.Given as goal
 
 abbrev pub invariant-loop-y : goal.invariant-loop-y

@@ -1,6 +1,5 @@
 -- A byte xor its last d bits. Assumes nothing.
 use mathlib.Core.Path.{ap}
-use borrow.Author.Rules.{rules}
 use lib.Bits.{bit_xor}
 use Rattle.span.proofs.last_off.Goals as goal
 

@@ -1,6 +1,5 @@
 -- The rest by a power of 2 that a shift gives. Assumes nothing.
 use native.Mathlib.Nat.{mod-le, lt_of_le_of_lt}
-use borrow.Author.Rules.{rules}
 use lib.Pow.{pow_pos}
 use Rattle.span.proofs.Stores.{power}
 use Rattle.span.proofs.low_bits.Goals as goal

@@ -5,7 +5,7 @@ use Prim.Native.Nat.{ℕ, ◌+◌, ◌-◌, ◌<◌, ◌≤◌}
 use native.Mathlib.Numerals.{add-one}
 use native.Mathlib.Omega.{arith}
 use borrow.Author.Rules.{rules}
-use lib.ListN.{length, get_or, set, replicate}
+use lib.ListN.{length, get_or, set}
 use lib.Seq.{paste, paste-zero, paste-suc, take_all}
 use Rattle.span.specs.Span.{framed}
 use Rattle.span.proofs.padded.Invariants.{zeros}

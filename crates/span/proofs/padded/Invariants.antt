@@ -1,13 +1,9 @@
 -- The first i bytes of the block stand in z from byte 1 on. Assumes nothing.
-use mathlib.Core.Path.{◌≡◌, ap, sym, ◌∙◌}
-use mathlib.Core.List.{List, [], ◌∷◌, ◌++◌}
-use Prim.Native.Nat.{ℕ, ◌+◌, ◌-◌, ◌<◌, ◌≤◌}
-use native.Mathlib.Numerals.{add-one}
-use native.Mathlib.Omega.{arith}
-use borrow.Author.Rules.{rules}
-use lib.ListN.{length, get_or, set, replicate}
-use lib.Seq.{paste, paste-zero, paste-suc, take_all}
-use Rattle.span.specs.Span.{framed}
+use mathlib.Core.Path.{◌≡◌}
+use mathlib.Core.List.{List}
+use Prim.Native.Nat.{ℕ, ◌-◌, ◌≤◌}
+use lib.ListN.{replicate}
+use lib.Seq.{paste}
 use Rattle.span.proofs.padded.Given as goal
 
 abbrev pub zeros : List ℕ

@@ -1,14 +1,9 @@
 -- The bits of bytes 0 to y - 1 are xored with the bits of z. Assumes nothing.
-use mathlib.Core.Path.{◌≡◌, sym, ap, ◌∙◌}
+use mathlib.Core.Path.{◌≡◌}
 use Prim.Native.Nat.{◌+◌, ◌-◌, ◌*◌, ◌≤◌}
-use native.Mathlib.Omega.{arith}
-use borrow.Author.Rules.{rules}
-use lib.ListN.{length, length-set}
+use lib.ListN.{length}
 use Rattle.laws.specs.Bits.{bit_at}
-use Rattle.laws.proofs.Bits.{at_lt, byte-ext}
 use Rattle.span.specs.Span.{xored}
-use Rattle.span.proofs.Laws.{xored-none}
-use Rattle.span.proofs.Stores.{pair-at, xored-more}
 use Rattle.span.proofs.xor_shifted.Given as goal
 
 abbrev pub invariant-loop-y : goal.invariant-loop-y

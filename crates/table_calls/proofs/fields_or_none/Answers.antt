@@ -1,6 +1,5 @@
 -- `table_calls::fields_or_none`: of the slot that is there or not. Assumes nothing.
 use mathlib.Core.Path.{ap}
-use borrow.Author.Rules.{rules}
 use Rattle.slots.specs.declared.Slot.{Slot}
 use Rattle.table_calls.proofs.fields_or_none.Goals as goal
 

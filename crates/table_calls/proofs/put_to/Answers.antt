@@ -1,5 +1,4 @@
 -- `table_calls::put_to`: a refusal leaves the table. Assumes nothing.
-use borrow.Author.Rules.{rules}
 use borrow.Author.Tests.{ne_eqb}
 use Rattle.table_calls.proofs.put_to.Goals as goal
 

@@ -1,6 +1,5 @@
 -- `table_calls::read`: by what is seen of the table. Assumes nothing.
 use mathlib.Core.Path.{◌∙◌}
-use borrow.Author.Rules.{rules}
 use Rattle.slots.specs.Slots.{keyless}
 use Rattle.slot_calls.specs.Calls.{shown_of}
 use Rattle.slot_calls.proofs.AsSeen.{slot-there, shown-seen}

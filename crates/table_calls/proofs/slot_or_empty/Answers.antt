@@ -1,7 +1,5 @@
 -- `table_calls::slot_or_empty`: by the number. Assumes nothing.
 use mathlib.Core.Path.{sym, ◌∙◌}
-use borrow.Author.Rules.{rules}
-use borrow.Author.Tests.{not-true, not-false}
 use Rattle.table_calls.proofs.slot_or_empty.Goals as goal
 
 pub returns-then-not-is_slot_number : goal.returns-then-not-is_slot_number

@@ -1,7 +1,6 @@
 -- `traffic::bit_at`: by the definition; past the end every bit is 0. Assumes nothing.
 use mathlib.Core.Path.{refl, sym}
 use native.Mathlib.Omega.{arith}
-use borrow.Author.Rules.{rules}
 use Rattle.laws.specs.Bits.{bit_of, bit_at}
 use Rattle.laws.proofs.Bits.{at-past}
 use Rattle.traffic.proofs.bit_at.Goals as goal

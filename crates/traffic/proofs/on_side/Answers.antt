@@ -1,5 +1,4 @@
 -- `traffic::on_side`: by the bit and the direction. Assumes nothing.
-use borrow.Author.Rules.{rules}
 use borrow.Author.Tests.{eq-eqb, ne_eqb}
 use Rattle.traffic.proofs.on_side.Goals as goal
 

@@ -1,5 +1,4 @@
 -- `traffic::sends_out_of_service`: a send, and then what the algorithm's test ensures. Assumes nothing.
-use borrow.Author.Rules.{rules}
 use borrow.Author.Tests.{eq-eqb, ne_eqb}
 use Rattle.traffic.proofs.sends_out_of_service.Goals as goal
 

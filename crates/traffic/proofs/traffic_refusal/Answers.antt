@@ -1,5 +1,4 @@
 -- `traffic::traffic_refusal`: the slot's refusals, and then the span's. Assumes nothing.
-use borrow.Author.Rules.{rules}
 use Rattle.traffic.specs.Traffic.{traffic_refusal_of}
 use Rattle.traffic.proofs.traffic_refusal.Goals as goal
 

@@ -1,5 +1,4 @@
 -- `traffic::use_refusal`: each test is the definition's, and so is their order. Assumes nothing.
-use borrow.Author.Rules.{rules}
 use Rattle.traffic.specs.Traffic.{use_refusal_of}
 use Rattle.traffic.proofs.use_refusal.Goals as goal
 

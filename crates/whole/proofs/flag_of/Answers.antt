@@ -1,5 +1,4 @@
 -- `whole::flag_of`: another kind or a short PDU has none. Assumes nothing.
-use borrow.Author.Rules.{rules}
 use borrow.Author.Tests.{eq-eqb, ne_eqb, le-leb, lt-leb}
 use Rattle.whole.specs.Whole.{flag_of}
 use Rattle.whole.proofs.flag_of.Goals as goal

@@ -1,7 +1,6 @@
 -- `whole::judged_plan`: by whether the call comes to its plan. Assumes nothing.
 use mathlib.Core.Path.{sym, ap, ◌∙◌}
 use Prim.Native.Nat.{ℕ}
-use borrow.Author.Rules.{rules}
 use borrow.Author.Tests.{eq-eqb, ne_eqb}
 use Rattle.plan.specs.Plan.{refused_plan}
 use Rattle.whole.specs.Whole.{judged_plan}

@@ -1,6 +1,5 @@
 -- `whole::key_slot`: by whether there is a piece. Assumes nothing.
 use mathlib.Core.Path.{sym, ◌∙◌}
-use borrow.Author.Rules.{rules}
 use Rattle.whole.proofs.key_slot.Goals as goal
 
 pub returns-then-has_no_piece : goal.returns-then-has_no_piece

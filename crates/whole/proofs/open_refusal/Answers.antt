@@ -1,5 +1,4 @@
 -- `whole::open_refusal`: the slot's refusals, and then the buffer's. Assumes nothing.
-use borrow.Author.Rules.{rules}
 use Rattle.whole.specs.Whole.{open_refusal_of}
 use Rattle.whole.proofs.open_refusal.Goals as goal
 

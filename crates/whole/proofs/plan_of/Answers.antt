@@ -1,7 +1,6 @@
 -- `whole::plan_of`: by the callees' contracts. Assumes nothing.
 use mathlib.Core.Path.{ap, ◌∙◌}
 use Prim.Native.Nat.{ℕ}
-use borrow.Author.Rules.{rules}
 use Rattle.plan.specs.Plan.{plan_of}
 use Rattle.whole.proofs.plan_of.Goals as goal
 

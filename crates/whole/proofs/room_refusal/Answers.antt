@@ -1,5 +1,4 @@
 -- `whole::room_refusal`: each answer by the tests that led to it. Assumes nothing.
-use borrow.Author.Rules.{rules}
 use borrow.Author.Tests.{lt-ltb, le-ltb}
 use Rattle.whole.specs.Whole.{room_refusal}
 use Rattle.whole.proofs.room_refusal.Goals as goal

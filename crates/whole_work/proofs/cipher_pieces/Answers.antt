@@ -1,8 +1,6 @@
 -- `whole_work::cipher_pieces`: nothing where there is no piece, and else the two runs. Assumes nothing.
-use mathlib.Core.Path.{◌≡◌, sym, ap, subst, ◌∙◌}
-use Prim.Native.Nat.{◌<◌}
+use mathlib.Core.Path.{sym, ap, subst, ◌∙◌}
 use native.Mathlib.Omega.{arith}
-use borrow.Author.Rules.{rules}
 use borrow.Author.Tests.{ne_eqb}
 use Rattle.ciphering.specs.Span.{schedules_for}
 use Rattle.keystream.specs.Stream.{keystream}

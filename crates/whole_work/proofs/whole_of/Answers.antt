@@ -1,9 +1,8 @@
 -- `whole_work::whole_of`: a refusal keeps the buffer; else the work's contracts say what it holds. Assumes nothing.
-use mathlib.Core.Path.{◌≡◌, refl, ◌∙◌}
-use borrow.Author.Rules.{rules}
+use mathlib.Core.Path.{refl, ◌∙◌}
 use borrow.Author.Tests.{ne_eqb}
 use Rattle.keystream.specs.Stream.{keystream}
-use Rattle.ciphering.specs.Span.{schedules_for, ciphered_as}
+use Rattle.ciphering.specs.Span.{ciphered_as}
 use Rattle.whole.specs.Whole.{ciphered}
 use Rattle.whole_work.proofs.whole_of.Goals as goal
 

@@ -1,10 +1,5 @@
 -- `writing::digit_count`: the digits counted and those left are all of them. Assumes nothing.
-use mathlib.Core.Path.{◌≡◌}
-use Prim.Native.Nat.{◌≤◌, ◌+◌}
 use native.Mathlib.Omega.{arith}
-use lib.ListN.{length}
-use borrow.Author.Rules.{rules}
-use Rattle.writing.specs.Text.{digits}
 use Rattle.writing.proofs.Digits.{length-one, length-ten}
 use Rattle.writing.proofs.digit_count.Goals as goal
 

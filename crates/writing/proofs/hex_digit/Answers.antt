@@ -1,5 +1,4 @@
 -- `writing::hex_digit`: each answer by the test that led to it. Assumes nothing.
-use borrow.Author.Rules.{rules}
 use borrow.Author.Tests.{lt-ltb, le-ltb}
 use Rattle.writing.specs.Text.{hex_digit}
 use Rattle.writing.proofs.hex_digit.Goals as goal

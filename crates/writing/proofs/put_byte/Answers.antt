@@ -2,7 +2,6 @@
 use native.Mathlib.Omega.{arith}
 use native.Mathlib.Numerals.{add-one}
 use lib.ListN.{set, length-set}
-use borrow.Author.Rules.{rules}
 use Rattle.writing.specs.Text.{hex_text}
 use Rattle.writing.proofs.put_byte.Goals as goal
 

@@ -1,10 +1,9 @@
 -- `writing::put_bytes`: what is to be left stays the same with each byte. Assumes nothing.
 use mathlib.Core.Path.{◌≡◌, refl, sym, ap, ◌∙◌}
-use Prim.Native.Nat.{ℕ, ◌≤◌, ◌-◌, ◌+◌}
+use Prim.Native.Nat.{ℕ, ◌-◌, ◌+◌}
 use native.Mathlib.Omega.{arith}
-use lib.ListN.{length, drop, length-set}
+use lib.ListN.{length-set}
 use lib.Seq.{sets}
-use borrow.Author.Rules.{rules}
 use Rattle.writing.proofs.Puts.{put-more, put_all}
 use Rattle.writing.proofs.put_bytes.Goals as goal
 

@@ -1,13 +1,9 @@
 -- `writing::put_digits`: what is to be left stays the same with each digit. Assumes nothing.
-use mathlib.Core.Path.{◌≡◌, refl, sym, ap, ◌∙◌}
-use Prim.Native.Nat.{ℕ, ◌<◌, ◌+◌, ◌/◌}
-use native.Mathlib.Omega.{arith}
-use lib.ListN.{length, set, length-set}
+use mathlib.Core.Path.{◌≡◌}
+use Prim.Native.Nat.{◌<◌, ◌+◌}
+use lib.ListN.{length}
 use lib.Seq.{sets}
-use borrow.Author.Rules.{rules}
 use Rattle.writing.specs.Text.{digits}
-use Rattle.writing.proofs.Digits.{length-one, length-ten, length_some}
-use Rattle.writing.proofs.Puts.{put-digit, put_last}
 use Rattle.writing.proofs.put_digits.Given as goal
 
 abbrev pub invariant-loop-left : goal.invariant-loop-left

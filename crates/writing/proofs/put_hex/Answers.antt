@@ -1,10 +1,7 @@
 -- `writing::put_hex`: byte after byte. Assumes nothing.
-use Prim.Native.Nat.{◌≤◌, ◌-◌}
+use Prim.Native.Nat.{◌-◌}
 use native.Mathlib.Omega.{arith}
-use lib.ListN.{length, take}
-use borrow.Author.Rules.{rules}
 use Rattle.writing.specs.Text.{hex_text}
-use Rattle.writing.specs.Writing.{Put}
 use Rattle.writing.proofs.Puts.{put-none, put-length, hex-room, hex-next, hex-whole}
 use Rattle.writing.proofs.put_hex.Goals as goal
 

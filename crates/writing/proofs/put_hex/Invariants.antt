@@ -1,11 +1,8 @@
 -- `writing::put_hex`: byte after byte. Assumes nothing.
 use Prim.Native.Nat.{◌≤◌, ◌-◌}
-use native.Mathlib.Omega.{arith}
 use lib.ListN.{length, take}
-use borrow.Author.Rules.{rules}
 use Rattle.writing.specs.Text.{hex_text}
 use Rattle.writing.specs.Writing.{Put}
-use Rattle.writing.proofs.Puts.{put-none, put-length, hex-room, hex-next, hex-whole}
 use Rattle.writing.proofs.put_hex.Given as goal
 
 abbrev pub invariant-loop-i : goal.invariant-loop-i

@@ -1,5 +1,4 @@
 -- `writing::put_item`: the name, and then the digits. Assumes nothing.
-use borrow.Author.Rules.{rules}
 use Rattle.writing.proofs.Puts.{put_then, room-first, room-then}
 use Rattle.writing.proofs.put_item.Goals as goal
 

@@ -1,8 +1,7 @@
 -- `writing::put_line`: the name and the digits, and then LF. Assumes nothing.
 use mathlib.Core.List.{[], ◌∷◌}
-use borrow.Author.Rules.{rules}
 use Rattle.writing.specs.Text.{lf, digits}
-use Rattle.writing.proofs.Puts.{put-length, ended-first, ended-then, ended-put}
+use Rattle.writing.proofs.Puts.{put-length, ended-then, ended-put}
 use Rattle.writing.proofs.put_line.Goals as goal
 
 pub returns : goal.returns

@@ -1,5 +1,4 @@
 -- `writing::put_word_item`: the name, and then the word. Assumes nothing.
-use borrow.Author.Rules.{rules}
 use Rattle.writing.proofs.Puts.{put_then, room-first, room-then}
 use Rattle.writing.proofs.put_word_item.Goals as goal
 

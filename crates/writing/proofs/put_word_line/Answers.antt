@@ -1,8 +1,7 @@
 -- `writing::put_word_line`: the name and the word, and then LF. Assumes nothing.
 use mathlib.Core.List.{[], ◌∷◌}
-use borrow.Author.Rules.{rules}
 use Rattle.writing.specs.Text.{lf}
-use Rattle.writing.proofs.Puts.{put-length, ended-first, ended-then, ended-put}
+use Rattle.writing.proofs.Puts.{put-length, ended-then, ended-put}
 use Rattle.writing.proofs.put_word_line.Goals as goal
 
 pub returns : goal.returns

@@ -8,7 +8,6 @@ use Rattle.forms.specs.Decimals.{may_follow}
 use Rattle.forms.proofs.Decimals.{follow-is}
 use Rattle.call_log.proofs.Highs.{high-most}
 use Rattle.call_log.specs.Fed.{so_far, in_number, high_of, after_digit}
-use borrow.Author.Rules.{rules}
 use Rattle.call_log.proofs.part.after_digit.Goals as goal
 
 pub overflow_mul-m : goal.overflow_mul-m

@@ -1,7 +1,6 @@
 -- `part::byte_of`: a byte of the name, or 0 behind it. Assumes nothing.
 use mathlib.Core.Path.{sym}
 use lib.ListN.{get_or-eq_default}
-use borrow.Author.Rules.{rules}
 use Rattle.call_log.proofs.part.byte_of.Goals as goal
 
 pub returns : goal.returns

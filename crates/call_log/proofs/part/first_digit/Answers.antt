@@ -2,11 +2,9 @@
 use mathlib.Core.Path.{◌≡◌, sym, ap, ◌∙◌}
 use mathlib.Core.Bool.{true}
 use Prim.Native.Nat.{ℕ}
-use native.Mathlib.Omega.{arith}
 use Rattle.forms.specs.Decimals.{may_begin}
 use Rattle.forms.proofs.Decimals.{begin-is}
 use Rattle.call_log.specs.Fed.{so_far, in_number, high_of, first_digit}
-use borrow.Author.Rules.{rules}
 use Rattle.call_log.proofs.part.first_digit.Goals as goal
 
 pub digit-requires : goal.digit-requires

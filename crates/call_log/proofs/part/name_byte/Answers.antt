@@ -1,7 +1,6 @@
 -- `part::name_byte`: by the tests of the part. Assumes nothing.
 use borrow.Author.Tests.{eq-eqb, ne_eqb}
 use Rattle.call_log.specs.Fed.{part_name, name_byte}
-use borrow.Author.Rules.{rules}
 use Rattle.call_log.proofs.part.name_byte.Goals as goal
 
 pub returns-then-part-eq0 : goal.returns-then-part-eq0

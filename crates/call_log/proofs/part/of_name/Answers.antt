@@ -1,7 +1,6 @@
 -- `part::of_name`: by the test of the byte. Assumes nothing.
 use borrow.Author.Tests.{eq-eqb, ne_eqb}
 use Rattle.call_log.specs.Fed.{of_name}
-use borrow.Author.Rules.{rules}
 use Rattle.call_log.proofs.part.of_name.Goals as goal
 
 pub returns-then-b-name : goal.returns-then-b-name

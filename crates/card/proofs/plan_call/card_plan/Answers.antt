@@ -1,6 +1,5 @@
 -- `card::plan_call::card_plan`: the plan's numbers. Assumes nothing.
 use mathlib.Core.Path.{ap, ◌∙◌}
-use borrow.Author.Rules.{rules}
 use Rattle.faces.specs.Faces.{planned_as, planned_out}
 use Rattle.card.proofs.plan_call.card_plan.Goals as goal
 

@@ -1,6 +1,5 @@
 -- `card::record::card_record_read`: the record's numbers. Assumes nothing.
 use mathlib.Core.Path.{ap, ◌∙◌}
-use borrow.Author.Rules.{rules}
 use Rattle.faces.specs.Faces.{read_as, read_out}
 use Rattle.card.proofs.record.card_record_read.Goals as goal
 

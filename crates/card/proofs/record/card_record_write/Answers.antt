@@ -1,6 +1,5 @@
 -- `card::record::card_record_write`: by the writer's contract, with the fields that were given one by one. Assumes nothing.
 use mathlib.Core.Path.{ap, ◌∙◌}
-use borrow.Author.Rules.{rules}
 use Rattle.fields.specs.declared.Asked.{Asked}
 use Rattle.faces.specs.Faces.{written_as, written_out}
 use Rattle.card.proofs.record.card_record_write.Goals as goal

@@ -4,7 +4,6 @@ use mathlib.Core.Path.{◌≡◌, sym, ap, ◌∙◌}
 use Prim.Native.Nat.{ℕ, ◌/◌}
 use native.Mathlib.Omega.{arith}
 use lib.ListN.{length}
-use borrow.Author.Rules.{rules}
 use Rattle.span.specs.Span.{xored}
 use Rattle.keystream.specs.Stream.{keystream}
 use Rattle.line_values.specs.Parts.{are_bytes, bytes_of}

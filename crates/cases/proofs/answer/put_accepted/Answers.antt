@@ -2,7 +2,6 @@
 use mathlib.Core.List.{◌++◌}
 use mathlib.Core.Path.{◌≡◌}
 use native.Mathlib.Omega.{arith}
-use borrow.Author.Rules.{rules}
 use Rattle.writing.proofs.Puts.{put_then, put-length, put_as}
 use Rattle.case_reader.specs.Case.{case_of}
 use Rattle.cases.specs.Answer.{mode_text, buffer_text, accepted_text}

@@ -4,7 +4,6 @@ use Prim.Native.Nat.{◌≤◌}
 use native.Mathlib.Omega.{arith}
 use lib.ListN.{length}
 use lib.Seq.{length-take-le}
-use borrow.Author.Rules.{rules}
 use Rattle.case_reader.proofs.Passed.{buffer-small}
 use Rattle.cases.proofs.answer.put_buffer.Goals as goal
 

@@ -2,7 +2,6 @@
 use mathlib.Core.List.{List, [], ◌∷◌, ◌++◌}
 use mathlib.Core.Path.{◌≡◌, sym, ap}
 use Prim.Native.Nat.{ℕ}
-use borrow.Author.Rules.{rules}
 use Rattle.writing.specs.Text.{lf, hex_text}
 use Rattle.writing.proofs.Puts.{put_then, put-length, put_as, room-first, room-then, room_as}
 use Rattle.case_reader.specs.Case.{case_of}

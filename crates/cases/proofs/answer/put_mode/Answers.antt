@@ -2,7 +2,6 @@
 use mathlib.Core.List.{◌++◌}
 use mathlib.Core.Path.{◌≡◌}
 use native.Mathlib.Omega.{arith}
-use borrow.Author.Rules.{rules}
 use Rattle.writing.proofs.Puts.{put_then, put-length, put_as}
 use Rattle.cases.specs.Answer.{value_text, mode_text}
 use Rattle.cases.proofs.answer.put_mode.Goals as goal

@@ -1,8 +1,6 @@
 -- `ciphering::lent::iv_of`: a copy. Assumes nothing.
-use mathlib.Core.Path.{refl}
 use Prim.Native.Nat.{◌-◌}
-use borrow.Author.Rules.{rules}
-use Rattle.laws.proofs.Lists.{fill_none, fill_more, Copied, copied_all}
+use Rattle.laws.proofs.Lists.{Copied}
 use Rattle.ciphering.proofs.lent.iv_of.Given as goal
 
 abbrev pub invariant-loop-i : goal.invariant-loop-i

@@ -1,8 +1,7 @@
 -- `ciphering::lent::key_of`: a copy. Assumes nothing.
 use mathlib.Core.Path.{refl}
 use Prim.Native.Nat.{◌-◌}
-use borrow.Author.Rules.{rules}
-use Rattle.laws.proofs.Lists.{fill_none, fill_more, Copied, copied_all}
+use Rattle.laws.proofs.Lists.{fill_none, fill_more, copied_all}
 use Rattle.ciphering.proofs.lent.key_of.Goals as goal
 
 pub loop-i-init : goal.loop-i-init

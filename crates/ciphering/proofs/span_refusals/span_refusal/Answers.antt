@@ -1,6 +1,5 @@
 -- `ciphering::span_refusals::span_refusal`: each answer by the tests that led to it. Assumes nothing.
 use mathlib.Core.Path.{sym, ◌∙◌}
-use borrow.Author.Rules.{rules}
 use borrow.Author.Tests.{lt-ltb, le-ltb, eq-eqb, ne_eqb}
 use Rattle.ciphering.specs.Span.{span_refusal}
 use Rattle.ciphering.proofs.span_refusals.span_refusal.Goals as goal

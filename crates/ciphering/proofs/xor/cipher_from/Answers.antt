@@ -2,7 +2,6 @@
 use mathlib.Core.Path.{◌≡◌, ap, ◌∙◌}
 use Prim.Native.Nat.{ℕ, ◌+◌, ◌*◌, ◌/◌, ◌%◌}
 use native.Mathlib.Omega.{arith}
-use borrow.Author.Rules.{rules}
 use Rattle.span.specs.Span.{xored}
 use Rattle.span.proofs.Tail.{tail-back}
 use Rattle.span.proofs.Stream.{stream-lt}

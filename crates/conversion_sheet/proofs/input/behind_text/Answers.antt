@@ -1,10 +1,10 @@
 -- `input::behind_text`: behind the LF, or at the end. Assumes nothing.
-use mathlib.Core.Path.{◌≡◌, sym, ap, ◌∙◌}
+use mathlib.Core.Path.{sym, ap, ◌∙◌}
 use Prim.Native.Nat.{suc}
 use native.Mathlib.Numerals.{add-one}
 use native.Mathlib.Omega.{arith}
 use borrow.Author.Rules.{rules}
-use lib.ListN.{length, drop, drop_of_length-le}
+use lib.ListN.{drop, drop_of_length-le}
 use Rattle.conversion_sheet.proofs.input.behind_text.Goals as goal
 
 pub returns-then-size-s : goal.returns-then-size-s

@@ -1,6 +1,5 @@
 -- `input::byte_at`: 0 is the default of a list. Assumes nothing.
 use mathlib.Core.Path.{sym}
-use borrow.Author.Rules.{rules}
 use lib.ListN.{get_or-eq_default}
 use Rattle.conversion_sheet.proofs.input.byte_at.Goals as goal
 

@@ -1,11 +1,8 @@
 -- `input::line_size`: the bytes passed are no LF. Assumes nothing.
-use mathlib.Core.Path.{◌≡◌, sym, ◌∙◌}
+use mathlib.Core.Path.{◌≡◌}
 use Prim.Native.Nat.{◌+◌, ◌-◌, ◌≤◌}
-use native.Mathlib.Omega.{arith}
-use borrow.Author.Rules.{rules}
 use lib.ListN.{length, drop}
 use Rattle.conversion_sheet.specs.Input.{line_size}
-use Rattle.conversion_sheet.proofs.Inputs.{line-here, line-later, line-end}
 use Rattle.conversion_sheet.proofs.input.line_size.Given as goal
 
 abbrev pub invariant-loop-i : goal.invariant-loop-i

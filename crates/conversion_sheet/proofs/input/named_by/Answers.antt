@@ -1,6 +1,5 @@
 -- `input::named_by`: by what the two readers ensure. Assumes nothing.
 use mathlib.Core.Path.{◌≡◌, sym, ap, ◌∙◌}
-use borrow.Author.Rules.{rules}
 use borrow.Author.Tests.{not-true, not-false}
 use Rattle.forms.specs.Form.{line}
 use Rattle.forms.specs.Decimals.{decimal}

@@ -1,6 +1,5 @@
 -- `input::read_before`: by the name, and the three bytes behind it. Assumes nothing.
 use mathlib.Core.Path.{◌≡◌, sym, ap, ◌∙◌}
-use borrow.Author.Rules.{rules}
 use borrow.Author.Tests.{not-true, not-false}
 use Rattle.writing.specs.Text.{ascii}
 use Rattle.forms.specs.Form.{literal}

@@ -9,8 +9,7 @@ use lib.ListN.{length, take, drop, length-drop}
 use lib.Seq.{take_all}
 use Rattle.conversion_sheet.specs.declared.input.Named.{Named}
 use Rattle.conversion_sheet.specs.Input.{named_by, line_size}
-use Rattle.conversion_sheet.proofs.Inputs.{line-some}
-use Rattle.conversion_sheet.proofs.Numbers.{Going, going-none, going_more, going_end}
+use Rattle.conversion_sheet.proofs.Numbers.{going-none, going_more, going_end}
 use Rattle.conversion_sheet.proofs.input.read_pairs.Goals as goal
 
 pub loop-pair-init : goal.loop-pair-init

@@ -1,13 +1,11 @@
 -- `input::text_size`: no empty line stands among the bytes passed. Assumes nothing.
 use mathlib.Core.Bool.{true}
 use mathlib.Core.Logic.{⊎_elim}
-use mathlib.Core.Path.{◌≡◌, sym, ◌∙◌}
-use Prim.Native.Nat.{◌+◌, ◌-◌, ◌≤◌}
+use mathlib.Core.Path.{sym, ◌∙◌}
+use Prim.Native.Nat.{◌-◌}
 use native.Mathlib.Omega.{arith}
 use borrow.Author.Rules.{rules}
 use borrow.Author.Tests.{eqb-true}
-use lib.ListN.{length, drop}
-use Rattle.conversion_sheet.specs.Input.{before_empty}
 use Rattle.conversion_sheet.proofs.Inputs.{empty-here, empty-later, empty-end}
 use Rattle.conversion_sheet.proofs.input.text_size.Goals as goal
 

@@ -1,6 +1,5 @@
 -- `inverse::inv_schedule::expand_inv_key`: the cipher's schedule, and then its round keys 1 to 13. Assumes nothing.
 use mathlib.Core.Path.{◌∙◌}
-use borrow.Author.Rules.{rules}
 use Rattle.inv_parts.proofs.MixedBack.{inv-words}
 use Rattle.inverse.proofs.inv_schedule.expand_inv_key.Goals as goal
 

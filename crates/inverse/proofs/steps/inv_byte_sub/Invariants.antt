@@ -1,10 +1,7 @@
 -- `inverse::steps::inv_byte_sub`: cell by cell. Assumes nothing.
 use Prim.Native.Nat.{◌-◌}
-use borrow.Author.Rules.{rules}
 use Rattle.inv_bytes.specs.Bytes.{inv_s_box}
-use Rattle.inv_parts.specs.Steps.{inv_byte_sub}
-use Rattle.laws.proofs.States.{state-shape}
-use Rattle.laws.proofs.InRows.{InRow, InRows, in-rows-none, in-row-none, in-row-more, in-rows-more, in-rows-all}
+use Rattle.laws.proofs.InRows.{InRow, InRows}
 use Rattle.laws.specs.Lists.{cell}
 use Rattle.inverse.proofs.steps.inv_byte_sub.Given as goal
 

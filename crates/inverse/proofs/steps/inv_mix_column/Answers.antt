@@ -1,10 +1,8 @@
 -- `inverse::steps::inv_mix_column`: column by column, `Columns`. Assumes nothing.
-use Prim.Native.Nat.{◌+◌, ◌-◌, ◌%◌}
-use borrow.Author.Rules.{rules}
+use Prim.Native.Nat.{◌-◌}
 use Rattle.inv_bytes.specs.Bytes.{inv_mixed_byte}
 use Rattle.inv_parts.specs.Steps.{inv_mix_column}
-use Rattle.laws.proofs.States.{Columns, columns-none, columns-more, columns-all, state-shape}
-use Rattle.laws.specs.Lists.{cell}
+use Rattle.laws.proofs.States.{columns-none, columns-more, columns-all, state-shape}
 use Rattle.inverse.proofs.steps.inv_mix_column.Goals as goal
 
 pub loop-c-init : goal.loop-c-init

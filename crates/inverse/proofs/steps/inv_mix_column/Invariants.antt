@@ -1,9 +1,7 @@
 -- `inverse::steps::inv_mix_column`: column by column, `Columns`. Assumes nothing.
 use Prim.Native.Nat.{◌+◌, ◌-◌, ◌%◌}
-use borrow.Author.Rules.{rules}
 use Rattle.inv_bytes.specs.Bytes.{inv_mixed_byte}
-use Rattle.inv_parts.specs.Steps.{inv_mix_column}
-use Rattle.laws.proofs.States.{Columns, columns-none, columns-more, columns-all, state-shape}
+use Rattle.laws.proofs.States.{Columns}
 use Rattle.laws.specs.Lists.{cell}
 use Rattle.inverse.proofs.steps.inv_mix_column.Given as goal
 

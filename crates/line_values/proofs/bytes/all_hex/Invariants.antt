@@ -1,11 +1,8 @@
 -- `bytes::all_hex`: what is to be answered stays the same with each digit. Assumes nothing.
-use mathlib.Core.Path.{◌≡◌, refl, sym, ◌∙◌}
+use mathlib.Core.Path.{◌≡◌}
 use Prim.Native.Nat.{◌-◌}
 use lib.ListN.{length, drop}
-use borrow.Author.Rules.{rules}
-use Rattle.forms.proofs.Hexes.{no_digit, a-digit}
 use Rattle.line_values.specs.Parts.{all_hex}
-use Rattle.line_values.proofs.Hexes.{all_end, all-no, all_yes}
 use Rattle.line_values.proofs.bytes.all_hex.Given as goal
 
 abbrev pub invariant-loop-i : goal.invariant-loop-i

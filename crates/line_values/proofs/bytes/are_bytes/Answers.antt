@@ -1,5 +1,4 @@
 -- `bytes::are_bytes`: each answer by the tests that led to it. Assumes nothing.
-use borrow.Author.Rules.{rules}
 use borrow.Author.Tests.{eq-eqb, ne_eqb}
 use Rattle.line_values.specs.Parts.{are_bytes}
 use Rattle.line_values.proofs.bytes.are_bytes.Goals as goal

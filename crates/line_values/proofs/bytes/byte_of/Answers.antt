@@ -1,7 +1,6 @@
 -- `bytes::byte_of`: each digit has its value, which is below 16. Assumes nothing.
 use Prim.Native.Nat.{◌*◌, ◌+◌}
 use native.Mathlib.Omega.{arith}
-use borrow.Author.Rules.{rules}
 use Rattle.line_values.proofs.Hexes.{value-is}
 use Rattle.line_values.proofs.bytes.byte_of.Goals as goal
 

@@ -1,11 +1,8 @@
 -- `bytes::read_bytes`: the buffer is filled from the front. Assumes nothing.
-use Prim.Native.Nat.{◌<◌, ◌-◌, ◌+◌, ◌*◌, ◌/◌}
+use Prim.Native.Nat.{◌<◌, ◌-◌, ◌+◌, ◌*◌}
 use native.Mathlib.Omega.{arith}
-use lib.ListN.{length, get_or}
-use borrow.Author.Rules.{rules}
-use Rattle.laws.specs.Lists.{Filled}
+use lib.ListN.{length}
 use Rattle.laws.proofs.Lists.{fill_none, fill_more, fill-all}
-use Rattle.forms.specs.Hexes.{hex_value}
 use Rattle.line_values.specs.Parts.{bytes_of}
 use Rattle.line_values.proofs.Hexes.{even, digit_at}
 use Rattle.line_values.proofs.bytes.read_bytes.Goals as goal

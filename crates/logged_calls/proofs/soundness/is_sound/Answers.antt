@@ -1,7 +1,6 @@
 -- `lines::is_sound`: by the test of the code. Assumes nothing.
 use borrow.Author.Tests.{eq-eqb, ne_eqb}
 use Rattle.logged_calls.specs.Log.{is_sound}
-use borrow.Author.Rules.{rules}
 use Rattle.logged_calls.proofs.soundness.is_sound.Goals as goal
 
 pub returns-then-code-eq0 : goal.returns-then-code-eq0

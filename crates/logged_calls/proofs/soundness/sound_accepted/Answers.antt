@@ -1,7 +1,6 @@
 -- `lines::sound_accepted`: each answer by the tests that led to it. Assumes nothing.
 use borrow.Author.Tests.{le-leb, lt-leb, lt-ltb, le-ltb}
 use Rattle.logged_calls.specs.Log.{sound_accepted}
-use borrow.Author.Rules.{rules}
 use Rattle.logged_calls.proofs.soundness.sound_accepted.Goals as goal
 
 pub returns-then-slot-lt1 : goal.returns-then-slot-lt1

@@ -2,8 +2,6 @@
 use mathlib.Core.Path.{◌≡◌, sym, ap, ◌∙◌}
 use mathlib.Core.Bool.{Bool, true, false}
 use mathlib.Core.List.{◌∷◌, [], ◌++◌}
-use borrow.Author.Rules.{rules}
-use borrow.Author.Tests.{not-true, not-false}
 use Rattle.writing.specs.Text.{ascii, lf}
 use Rattle.writing.proofs.Puts.{put_as, put-none, put_then, put-length, room_as, room-first, room-then}
 use Rattle.mending.specs.Changes.{change_text}

@@ -1,7 +1,6 @@
 -- `changes::put_changes`: line after line, each with room for it and those that follow. Assumes nothing.
-use mathlib.Core.Path.{◌≡◌, sym, ap}
+use mathlib.Core.Path.{sym, ap}
 use mathlib.Core.Bool.{Bool, not}
-use borrow.Author.Rules.{rules}
 use Rattle.writing.specs.Text.{ascii}
 use Rattle.writing.proofs.Puts.{put_as, put_then, put-length, room_as, room-first, room-then}
 use Rattle.mending.specs.Changes.{change_text, changes_text}

@@ -1,7 +1,6 @@
 -- `changes::put_fault`: by whether some line has it. Assumes nothing.
-use mathlib.Core.Path.{◌≡◌, sym, ap}
+use mathlib.Core.Path.{sym, ap}
 use mathlib.Core.Bool.{Bool}
-use borrow.Author.Rules.{rules}
 use Rattle.writing.proofs.Puts.{put_as, put-length, room_as}
 use Rattle.mending.specs.Changes.{change_text}
 use Rattle.mending.proofs.changes.put_fault.Goals as goal

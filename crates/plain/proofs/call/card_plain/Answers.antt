@@ -2,7 +2,6 @@
 use mathlib.Core.Path.{◌≡◌, sym, ap, ◌∙◌}
 use native.Mathlib.Omega.{arith}
 use lib.ListN.{length}
-use borrow.Author.Rules.{rules}
 use Rattle.span.specs.Span.{written, stream_bit}
 use Rattle.tea.specs.Mode.{mode_of}
 use Rattle.tea.specs.Keystream.{block_of}

@@ -1,5 +1,4 @@
 -- `plain::call::refusal_of`: by the callee's contract. Assumes nothing.
-use borrow.Author.Rules.{rules}
 use Rattle.plain.proofs.call.refusal_of.Goals as goal
 
 pub returns : goal.returns

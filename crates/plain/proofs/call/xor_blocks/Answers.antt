@@ -6,8 +6,7 @@ use native.Mathlib.Omega.{arith}
 use borrow.Author.Rules.{rules}
 use lib.ListN.{length}
 use Rattle.laws.specs.Bits.{bit_at}
-use Rattle.span.specs.Span.{stream_bit, xored}
-use Rattle.block_counts.specs.Counts.{blocks_used}
+use Rattle.span.specs.Span.{xored}
 use Rattle.block_counts.proofs.Blocks.{used-none}
 use Rattle.span.proofs.Laws.{xored-none, length-xored}
 use Rattle.span.proofs.Stream.{xored-stretch}

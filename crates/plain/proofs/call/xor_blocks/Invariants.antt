@@ -1,18 +1,10 @@
 -- `plain::call::xor_blocks`: `done` bits are xored, and each turn adds a piece of one block. Assumes nothing.
-use mathlib.Core.Path.{◌≡◌, refl, sym, ap, ◌∙◌}
-use Prim.Native.Nat.{ℕ, ◌<◌, ◌≤◌, ◌-◌, ◌+◌, ◌%◌}
-use native.Mathlib.Nat.{zero-add}
-use native.Mathlib.Omega.{arith}
-use borrow.Author.Rules.{rules}
+use mathlib.Core.Path.{◌≡◌}
+use Prim.Native.Nat.{◌<◌, ◌≤◌, ◌-◌, ◌+◌, ◌%◌}
 use lib.ListN.{length}
-use Rattle.laws.specs.Bits.{bit_at}
 use Rattle.span.specs.Span.{stream_bit, xored}
 use Rattle.block_counts.specs.Counts.{blocks_used}
-use Rattle.block_counts.proofs.Blocks.{used-none}
-use Rattle.span.proofs.Laws.{xored-none, length-xored}
-use Rattle.span.proofs.Stream.{xored-stretch}
 use Rattle.tea.specs.Keystream.{block_of}
-use Rattle.plain.proofs.Turns.{one_more}
 use Rattle.plain.proofs.call.xor_blocks.Given as goal
 
 abbrev pub invariant-loop-done : goal.invariant-loop-done

@@ -1,7 +1,6 @@
 -- `plain_blocks::blocks::block`: the cipher's block, by the callees' contracts. Assumes nothing.
 use mathlib.Core.List.{◌++◌}
 use mathlib.Core.Path.{ap, ◌∙◌}
-use borrow.Author.Rules.{rules}
 use Rattle.rijndael.specs.Cipher.{cipher}
 use Rattle.tea.specs.Keystream.{plaintext, block_of}
 use Rattle.plain_blocks.proofs.blocks.block.Goals as goal

@@ -4,8 +4,7 @@ use mathlib.Core.List.{◌++◌}
 use Prim.Native.Nat.{◌-◌}
 use native.Mathlib.Omega.{arith}
 use borrow.Author.Rules.{rules}
-use lib.ListN.{length, get_or, length-append}
-use Rattle.laws.specs.Lists.{Filled}
+use lib.ListN.{length, length-append}
 use Rattle.laws.proofs.Lists.{fill_none, fill_more, fill-all, tabulate-entries}
 use Rattle.plain_blocks.proofs.blocks.plaintext.Goals as goal
 

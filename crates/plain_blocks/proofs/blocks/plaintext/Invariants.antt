@@ -1,12 +1,8 @@
 -- `plain_blocks::blocks::plaintext`: the entries below k are those of the two lists. Assumes nothing.
-use mathlib.Core.Path.{◌≡◌, refl, ◌∙◌}
 use mathlib.Core.List.{◌++◌}
 use Prim.Native.Nat.{◌-◌}
-use native.Mathlib.Omega.{arith}
-use borrow.Author.Rules.{rules}
-use lib.ListN.{length, get_or, length-append}
+use lib.ListN.{get_or}
 use Rattle.laws.specs.Lists.{Filled}
-use Rattle.laws.proofs.Lists.{fill_none, fill_more, fill-all, tabulate-entries}
 use Rattle.plain_blocks.proofs.blocks.plaintext.Given as goal
 
 abbrev pub invariant-loop-k : goal.invariant-loop-k

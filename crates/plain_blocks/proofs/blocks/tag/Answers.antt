@@ -1,9 +1,8 @@
 -- `plain_blocks::blocks::tag`: by the callee's contract. Assumes nothing.
 use mathlib.Core.List.{[], ◌∷◌}
-use mathlib.Core.Path.{◌≡◌, sym, ap, ◌∙◌}
+use mathlib.Core.Path.{◌≡◌, ◌∙◌}
 use Prim.Native.Nat.{ℕ, ◌/◌, ◌%◌}
 use native.Mathlib.Omega.{arith}
-use borrow.Author.Rules.{rules}
 use Rattle.plain_blocks.proofs.blocks.tag.Goals as goal
 
 -- the last byte of a number, as the definition has it

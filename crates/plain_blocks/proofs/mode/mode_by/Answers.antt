@@ -2,12 +2,11 @@
 use mathlib.Core.Path.{◌≡◌, refl, sym, ap, ◌∙◌}
 use mathlib.Core.List.{List}
 use Prim.Native.Nat.{ℕ, ◌+◌, ◌/◌, ◌%◌, ◌-◌, ◌<◌}
-use borrow.Author.Rules.{rules}
 use lib.ListN.{get_or}
 use Rattle.laws.proofs.Lists.{tabulate-at}
 use Rattle.tea.specs.Mixing.{expanded_byte, mixed_value}
 use Rattle.tea.specs.Mode.{combined}
-use Rattle.tea.proofs.Halves.{Halves, halves-none, halves-more, halves-all}
+use Rattle.tea.proofs.Halves.{halves-none, halves-more, halves-all}
 use Rattle.plain_blocks.proofs.mode.mode_by.Goals as goal
 
 -- byte k of the mixed value

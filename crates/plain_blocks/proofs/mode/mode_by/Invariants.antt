@@ -1,13 +1,7 @@
 -- `plain_blocks::mode::mode_by`: both lists are filled side by side; byte k of the mixed value is b[20 + k]. Assumes nothing.
-use mathlib.Core.Path.{◌≡◌, refl, sym, ap, ◌∙◌}
-use mathlib.Core.List.{List}
-use Prim.Native.Nat.{ℕ, ◌+◌, ◌/◌, ◌%◌, ◌-◌, ◌<◌}
-use borrow.Author.Rules.{rules}
-use lib.ListN.{get_or}
-use Rattle.laws.proofs.Lists.{tabulate-at}
-use Rattle.tea.specs.Mixing.{expanded_byte, mixed_value}
-use Rattle.tea.specs.Mode.{combined}
-use Rattle.tea.proofs.Halves.{Halves, halves-none, halves-more, halves-all}
+use Prim.Native.Nat.{◌-◌}
+use Rattle.tea.specs.Mixing.{mixed_value}
+use Rattle.tea.proofs.Halves.{Halves}
 use Rattle.plain_blocks.proofs.mode.mode_by.Given as goal
 
 abbrev pub invariant-loop-k : goal.invariant-loop-k

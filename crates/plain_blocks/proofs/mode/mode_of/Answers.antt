@@ -1,5 +1,4 @@
 -- `plain_blocks::mode::mode_of`: by the callees' contracts. Assumes nothing.
-use borrow.Author.Rules.{rules}
 use Rattle.tea.specs.Mode.{mode_of}
 use Rattle.plain_blocks.proofs.mode.mode_of.Goals as goal
 

@@ -1,11 +1,8 @@
 -- `plain_field::galois::times`: the sum so far, and the terms to come, are the product. Assumes nothing.
-use mathlib.Core.Path.{◌≡◌, sym, ap, ◌∙◌}
-use Prim.Native.Nat.{ℕ, ◌+◌, ◌-◌, ◌/◌, ◌<◌, ◌≤◌}
-use native.Mathlib.Omega.{arith}
-use borrow.Author.Rules.{rules}
-use lib.Bits.{bit_xor, xor_zero_l, xor_zero_r}
+use mathlib.Core.Path.{◌≡◌}
+use Prim.Native.Nat.{◌-◌, ◌≤◌}
+use lib.Bits.{bit_xor}
 use Rattle.gf256.specs.Field.{sum_over, times}
-use Rattle.plain_field.proofs.Products.{sum_more}
 use Rattle.plain_field.proofs.galois.times.Given as goal
 
 abbrev pub invariant-loop : goal.invariant-loop

@@ -1,6 +1,5 @@
 -- `plain_field::galois::xtime`: a shift; above 127 by one test of 128. Assumes nothing.
 use Prim.Native.Nat.{◌-◌, ◌*◌}
-use native.Mathlib.Omega.{arith}
 use borrow.Author.Rules.{rules}
 use borrow.Author.Tests.{lt-ltb}
 use lib.Bits.{bit_xor}

@@ -1,5 +1,4 @@
 -- `plain_field::s_box::affine`: by the callee's contract. Assumes nothing.
-use borrow.Author.Rules.{rules}
 use Rattle.gf256.specs.Field.{affine}
 use Rattle.plain_field.proofs.s_box.affine.Goals as goal
 

@@ -1,5 +1,4 @@
 -- `plain_field::s_box::s_box`: by the callees' contracts. Assumes nothing.
-use borrow.Author.Rules.{rules}
 use Rattle.gf256.specs.Field.{s_box}
 use Rattle.plain_field.proofs.s_box.s_box.Goals as goal
 

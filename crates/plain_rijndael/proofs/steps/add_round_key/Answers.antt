@@ -1,17 +1,12 @@
 -- `plain_rijndael::steps::add_round_key`: cell by cell; a byte of a word is the byte that is held. Assumes nothing.
-use mathlib.Core.List.{List}
 use mathlib.Core.Path.{ap}
-use Prim.Native.Nat.{ℕ, ◌+◌, ◌-◌, ◌*◌, ◌<◌}
+use Prim.Native.Nat.{◌+◌, ◌-◌, ◌*◌, ◌<◌}
 use native.Mathlib.Omega.{arith}
-use borrow.Author.Rules.{rules}
 use lib.Bits.{bit_xor}
-use lib.ListN.{get_or}
-use Rattle.words.specs.Words.{byte_of}
 use Rattle.round_steps.specs.Steps.{add_round_key}
 use Rattle.laws.proofs.States.{state-shape}
-use Rattle.laws.proofs.InRows.{InRow, InRows, in-rows-none, in-row-none, in-row-more, in-rows-more, in-rows-all}
+use Rattle.laws.proofs.InRows.{in-rows-none, in-row-none, in-row-more, in-rows-more, in-rows-all}
 use Rattle.laws.specs.Lists.{cell}
-use Rattle.plain_schedule.specs.Bytes.{words_of}
 use Rattle.plain_schedule.proofs.Words.{words-bytes, word_byte}
 use Rattle.plain_rijndael.proofs.steps.add_round_key.Goals as goal
 

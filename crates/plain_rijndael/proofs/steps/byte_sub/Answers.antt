@@ -1,12 +1,9 @@
 -- `plain_rijndael::steps::byte_sub`: cell by cell. Assumes nothing.
-use mathlib.Core.List.{List}
-use Prim.Native.Nat.{ℕ, ◌-◌}
-use borrow.Author.Rules.{rules}
+use Prim.Native.Nat.{◌-◌}
 use Rattle.gf256.specs.Field.{s_box}
 use Rattle.round_steps.specs.Steps.{byte_sub}
 use Rattle.laws.proofs.States.{state-shape}
-use Rattle.laws.proofs.InRows.{InRow, InRows, in-rows-none, in-row-none, in-row-more, in-rows-more, in-rows-all}
-use Rattle.laws.specs.Lists.{cell}
+use Rattle.laws.proofs.InRows.{in-rows-none, in-row-none, in-row-more, in-rows-more, in-rows-all}
 use Rattle.plain_rijndael.proofs.steps.byte_sub.Goals as goal
 
 pub loop-r-init : goal.loop-r-init

@@ -1,11 +1,8 @@
 -- `plain_rijndael::steps::mix_column`: cell by cell. Assumes nothing.
-use mathlib.Core.List.{List}
-use Prim.Native.Nat.{ℕ, ◌+◌, ◌-◌, ◌%◌}
-use borrow.Author.Rules.{rules}
+use Prim.Native.Nat.{◌-◌}
 use Rattle.round_steps.specs.Steps.{mixed_byte, mix_column}
 use Rattle.laws.proofs.States.{state-shape}
-use Rattle.laws.proofs.InRows.{InRow, InRows, in-rows-none, in-row-none, in-row-more, in-rows-more, in-rows-all}
-use Rattle.laws.specs.Lists.{cell}
+use Rattle.laws.proofs.InRows.{in-rows-none, in-row-none, in-row-more, in-rows-more, in-rows-all}
 use Rattle.plain_rijndael.proofs.steps.mix_column.Goals as goal
 
 pub loop-c-preserved : goal.loop-c-preserved

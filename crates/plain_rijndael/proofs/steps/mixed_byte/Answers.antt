@@ -1,5 +1,4 @@
 -- `plain_rounds::mixed_byte`: by the callee's contract. Assumes nothing.
-use borrow.Author.Rules.{rules}
 use Rattle.round_steps.specs.Steps.{mixed_byte}
 use Rattle.plain_rijndael.proofs.steps.mixed_byte.Goals as goal
 

@@ -1,7 +1,6 @@
 -- `plain_rounds::shift_of`: row by row. Assumes nothing.
 use mathlib.Core.Path.{◌≡◌, sym, ap}
 use native.Mathlib.Omega.{arith}
-use borrow.Author.Rules.{rules}
 use Rattle.round_steps.specs.Steps.{shift_of}
 use Rattle.plain_rijndael.proofs.steps.shift_of.Goals as goal
 

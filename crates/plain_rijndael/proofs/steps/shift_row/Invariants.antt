@@ -1,15 +1,8 @@
 -- `plain_rijndael::steps::shift_row`: cell by cell. Assumes nothing.
 use mathlib.Core.List.{List}
-use mathlib.Core.Path.{ap}
-use Prim.Native.Nat.{ℕ, ◌+◌, ◌-◌, ◌%◌, ◌<◌, zero-le}
-use native.Mathlib.Omega.{arith}
-use borrow.Author.Rules.{rules}
-use borrow.Author.Tests.{ltb-true}
-use lib.Dec.{ltb}
-use Rattle.laws.proofs.Tests.{holds}
-use Rattle.round_steps.specs.Steps.{shift_of, shift_row}
-use Rattle.laws.proofs.States.{state-shape}
-use Rattle.laws.proofs.InRows.{InRow, InRows, in-rows-none, in-row-none, in-row-more, in-rows-more, in-rows-all}
+use Prim.Native.Nat.{ℕ, ◌+◌, ◌-◌, ◌%◌}
+use Rattle.round_steps.specs.Steps.{shift_of}
+use Rattle.laws.proofs.InRows.{InRow, InRows}
 use Rattle.laws.specs.Lists.{cell}
 use Rattle.plain_rijndael.proofs.steps.shift_row.Given as goal
 

@@ -1,9 +1,6 @@
 -- `rounds::packing::from_words`: column by column, `Columns`. Assumes nothing.
 use Prim.Native.Nat.{◌-◌}
-use borrow.Author.Rules.{rules}
-use lib.ListN.{get_or}
-use Rattle.laws.proofs.States.{Columns, columns-none, columns-more, columns-all, zero-shape}
-use Rattle.words.specs.Words.{byte_of}
+use Rattle.laws.proofs.States.{columns-none, columns-more, columns-all, zero-shape}
 use Rattle.rounds.specs.Columns.{of_words}
 use Rattle.rounds.proofs.packing.from_words.Goals as goal
 

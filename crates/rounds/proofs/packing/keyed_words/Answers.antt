@@ -1,9 +1,8 @@
 -- `rounds::packing::keyed_words`: word by word, `Packed`. Assumes nothing.
 use mathlib.Core.Path.{refl}
 use Prim.Native.Nat.{◌-◌}
-use borrow.Author.Rules.{rules}
 use Rattle.round_steps.specs.Steps.{add_round_key}
-use Rattle.rounds.proofs.Columns.{Packed, first_keyed, pack-none, pack-all, keyed-more}
+use Rattle.rounds.proofs.Columns.{pack-none, pack-all, keyed-more}
 use Rattle.rounds.proofs.packing.keyed_words.Goals as goal
 
 pub loop-c-init : goal.loop-c-init

@@ -1,10 +1,7 @@
 -- `rounds::packing::to_words`: word by word, `Packed`. Assumes nothing.
-use mathlib.Core.Path.{refl, ◌∙◌}
 use Prim.Native.Nat.{◌-◌}
-use borrow.Author.Rules.{rules}
 use Rattle.laws.specs.Lists.{cell}
-use Rattle.laws.proofs.States.{state-shape}
-use Rattle.rounds.proofs.Columns.{Packed, pack-none, pack-more, pack-all, own-cells}
+use Rattle.rounds.proofs.Columns.{Packed}
 use Rattle.rounds.proofs.packing.to_words.Given as goal
 
 abbrev pub invariant-loop-c : goal.invariant-loop-c

@@ -1,7 +1,7 @@
 -- `listing::count_filled`: the count so far, and that of the slots that are left. Assumes nothing.
-use mathlib.Core.Path.{◌≡◌, sym, ap, ◌∙◌}
+use mathlib.Core.Path.{sym, ap, ◌∙◌}
 use mathlib.Core.Bool.{Bool}
-use Prim.Native.Nat.{ℕ, ◌≤◌, ◌+◌, ◌-◌}
+use Prim.Native.Nat.{ℕ, ◌+◌, ◌-◌}
 use native.Mathlib.Omega.{arith}
 use borrow.Author.Rules.{rules}
 use lib.ListN.{drop}
@@ -18,8 +18,8 @@ loop-i-preserved c =
     let next = count_next table i (search rules) in
     let more : Bool → ℕ = λ t. pick t 1 0 + filled_count (drop (i + 1) table) in
     elim c.if-is_filled.branch [
-      then-is_filled w ↦ let e = next ∙ ap more (sym c.is_filled.ensures ∙ w.if-is_filled.true) in (omega arith, omega (arith, w.count-is), omega (arith, w.count-is))
-    | else-is_filled w ↦ let e = next ∙ ap more (sym c.is_filled.ensures ∙ w.if-is_filled.false) in (omega arith, omega (arith, w.count-is), omega (arith, w.count-is))
+      | then-is_filled w ↦ let e = next ∙ ap more (sym c.is_filled.ensures ∙ w.if-is_filled.true) in (omega arith, omega (arith, w.count-is), omega (arith, w.count-is))
+      | else-is_filled w ↦ let e = next ∙ ap more (sym c.is_filled.ensures ∙ w.if-is_filled.false) in (omega arith, omega (arith, w.count-is), omega (arith, w.count-is))
     ]
 
 pub returns : goal.returns

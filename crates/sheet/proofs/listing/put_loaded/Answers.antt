@@ -1,6 +1,5 @@
 -- `listing::put_loaded`: the text by the test that led to it. Assumes nothing.
 use mathlib.Core.Path.{sym}
-use borrow.Author.Rules.{rules}
 use Rattle.writing.proofs.Puts.{put_as}
 use Rattle.sheet.proofs.Lines.{text-loaded, text-refused}
 use Rattle.sheet.proofs.listing.put_loaded.Goals as goal

@@ -2,7 +2,6 @@
 use Prim.Native.Nat.{◌≤◌}
 use native.Mathlib.Omega.{arith}
 use lib.ListN.{length}
-use borrow.Author.Rules.{rules}
 use Rattle.writing.specs.Writing.{Room}
 use Rattle.sheet.specs.Sheet.{refusal_text, room}
 use Rattle.writing.proofs.Left.{left-all, left-room, left-next, left-last, next-room}

@@ -2,7 +2,6 @@
 use mathlib.Core.Path.{◌≡◌, sym}
 use Prim.Native.Nat.{◌≤◌}
 use native.Mathlib.Omega.{arith}
-use borrow.Author.Rules.{rules}
 use lib.ListN.{length}
 use Rattle.writing.proofs.Puts.{put_as, put_then, put-length}
 use Rattle.sheet.proofs.Lines.{header-short, count-short, count-high, table-text}

@@ -1,16 +1,11 @@
 -- `tea::mixing::mixed_bytes`: the bytes below i are right, whatever initial value the first ten are of; `last` is byte i - 1, and `two` the sum of bytes i - 10 and i - 9. Assumes nothing.
 use mathlib.Core.List.{List}
-use mathlib.Core.Path.{◌≡◌, ◌∙◌}
-use Prim.Native.Nat.{ℕ, ◌-◌, ◌<◌, ◌≤◌}
-use native.Mathlib.Omega.{arith}
-use borrow.Author.Rules.{rules}
+use mathlib.Core.Path.{◌≡◌}
+use Prim.Native.Nat.{ℕ, ◌-◌, ◌≤◌}
 use lib.Bits.{bit_xor}
-use lib.Dec.{lit<}
-use lib.ListN.{length, get_or, set, length-set}
+use lib.ListN.{length, get_or}
 use Rattle.laws.specs.Lists.{Filled}
-use Rattle.laws.proofs.Lists.{fill-all}
 use Rattle.tea.specs.Mixing.{expanded_byte}
-use Rattle.tea.proofs.MixingRule.{byte-same, byte_more, last-is, two-are}
 use Rattle.tea.proofs.mixing.mixed_bytes.Given as goal
 
 abbrev pub invariant-loop-i : goal.invariant-loop-i

@@ -2,9 +2,6 @@
 use mathlib.Core.Path.{refl}
 use Prim.Native.Nat.{◌+◌, ◌-◌}
 use native.Mathlib.Omega.{arith}
-use borrow.Author.Rules.{rules}
-use lib.ListN.{get_or}
-use Rattle.laws.specs.Lists.{Filled}
 use Rattle.laws.proofs.Lists.{fill_none, fill_more, fill-are, tabulate-at}
 use Rattle.tea.specs.Mixing.{expanded_byte, mixed_value}
 use Rattle.tea.proofs.mixing.mixed_value.Goals as goal

@@ -1,12 +1,7 @@
 -- `tea::mixing::mixed_value`: 24 of the bytes. Assumes nothing.
-use mathlib.Core.Path.{refl}
 use Prim.Native.Nat.{◌+◌, ◌-◌}
-use native.Mathlib.Omega.{arith}
-use borrow.Author.Rules.{rules}
 use lib.ListN.{get_or}
 use Rattle.laws.specs.Lists.{Filled}
-use Rattle.laws.proofs.Lists.{fill_none, fill_more, fill-are, tabulate-at}
-use Rattle.tea.specs.Mixing.{expanded_byte, mixed_value}
 use Rattle.tea.proofs.mixing.mixed_value.Given as goal
 
 abbrev pub invariant-loop-k : goal.invariant-loop-k

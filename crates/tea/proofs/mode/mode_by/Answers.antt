@@ -1,7 +1,6 @@
 -- `tea::mode::mode_by`: both lists are filled side by side. Assumes nothing.
 use Prim.Native.Nat.{◌-◌}
-use borrow.Author.Rules.{rules}
-use Rattle.tea.proofs.Halves.{Halves, halves-none, halves-more, halves-all}
+use Rattle.tea.proofs.Halves.{halves-none, halves-more, halves-all}
 use Rattle.tea.proofs.mode.mode_by.Goals as goal
 
 pub loop-k-preserved : goal.loop-k-preserved

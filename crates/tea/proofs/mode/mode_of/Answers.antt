@@ -1,5 +1,4 @@
 -- `tea::mode::mode_of`: by the callees' contracts. Assumes nothing.
-use borrow.Author.Rules.{rules}
 use Rattle.tea.specs.Mode.{mode_of}
 use Rattle.tea.proofs.mode.mode_of.Goals as goal
 

@@ -1,15 +1,8 @@
 -- `tea::plaintext::plaintext`: the entries below i are the plaintext's. Assumes nothing.
-use mathlib.Core.Path.{◌≡◌, refl, sym, ap, ◌∙◌}
-use mathlib.Core.List.{List, ◌++◌}
-use Prim.Native.Nat.{ℕ, ◌+◌, ◌-◌, ◌≤◌, ◌<◌}
-use native.Mathlib.Omega.{arith}
-use borrow.Author.Rules.{rules}
-use lib.Dec.{lit<}
-use lib.ListN.{length, get_or, length-append, get_or-append}
-use lib.Seq.{get_or-append-add}
+use Prim.Native.Nat.{◌-◌, ◌≤◌}
+use lib.ListN.{get_or}
 use Rattle.laws.specs.Lists.{Filled}
-use Rattle.laws.proofs.Lists.{fill_none, fill_more, fill-at, fill-all, tabulate-entries}
-use Rattle.tea.specs.Keystream.{tag, plaintext}
+use Rattle.tea.specs.Keystream.{plaintext}
 use Rattle.tea.proofs.plaintext.plaintext.Given as goal
 
 abbrev pub invariant-loop-i : goal.invariant-loop-i
