@@ -11,4 +11,4 @@ returns-then-not-is_filled c =
 
 pub returns-else-not-is_filled : goal.returns-else-not-is_filled
 unfolding is_bad
-returns-else-not-is_filled c = rw (sym c.is_filled.ensures ∙ c.if-not-is_filled.false)
+returns-else-not-is_filled c = rw (c.if-not-is_filled.false, sym c.is_filled.ensures ∙ c.if-not-is_filled.false)
