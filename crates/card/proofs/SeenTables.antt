@@ -72,7 +72,7 @@ module _ (ys : List Slot) where
     shown-in = shown-seen (is_no_table ys) number (keyless (fields_in ys number)) (slot_at ys number) there-in
 
     module _ (direction : ℕ) (iv buf : List ℕ) (start n skip : ℕ) where
-      abbrev judged : ℕ
+      abbrev pub judged : ℕ
       judged = traffic_refusal_of (is_no_table ys) (keyless (fields_in ys number)) direction number iv buf start n skip
 
       pub traffic-in : (r : ℕ) → r ≡ judged → (k : ℕ) → k ≡ key_slot (eqb r done) number
@@ -83,7 +83,7 @@ module _ (ys : List Slot) where
           (λ d. let passed = (traffic-passed-of _ _ _ _ _ _ _ _ _ d).allowed in key_in (eqb judged done) (eq-eqb judged done d) passed.good passed.slot.numbered)
 
     module _ (direction : ℕ) (iv buf : List ℕ) (u : Pdu) where
-      abbrev planned : Plan
+      abbrev pub planned : Plan
       planned = judged_plan (is_no_table ys) (keyless (fields_in ys number)) direction number iv buf u
 
       pub whole_in : (p : Plan) → p ≡ planned → (k : ℕ) → k ≡ key_slot (not (has_no_piece p)) number
@@ -133,7 +133,7 @@ module _ (ys : List Slot) (number : ℕ) where
       (ap (changed_by ys number) e ∙ load-put (is_no_table ys) ys number (keyless (fields_in ys number)) (there-in ys number) a key)
 
 module _ (ys : List Slot) (from to asked : ℕ) where
-  abbrev moving : ℕ
+  abbrev pub moving : ℕ
   moving = move_refusal_of (is_no_table ys) (keyless (fields_in ys from)) (keyless (fields_in ys to)) from to asked
 
   abbrev Passes : Type 0
