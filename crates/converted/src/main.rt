@@ -2,13 +2,14 @@
 // the number of pairs, or the refusal, to standard output. One byte more than the longest input is read, so that a longer one is seen.
 #![tactic(auto)]
 
-use libc::{STDIN_FILENO, STDOUT_FILENO};
+use std::io;
+use std::io::Write;
 
-fn main() {
+fn main(rt: HostRuntime) -> io::Result<()> {
     let mut input = [0u8; 16385];
-    let n = io::read_full(STDIN_FILENO, &mut input);
+    let n = filling::read_full(&mut rt.stdin(), &mut input)?;
     let report = conversion_sheet::report_on(&input[..n]);
     let text = report.text;
     let length = report.length;
-    io::write_all(STDOUT_FILENO, &text[..length]);
+    rt.stdout().write_all(&text[..length])
 }

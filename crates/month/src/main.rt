@@ -2,17 +2,18 @@
 #![tactic(auto)]
 
 use call_log::Month;
-use libc::{STDIN_FILENO, STDOUT_FILENO};
+use std::io;
+use std::io::{Read, Write};
 
 const BLOCK: usize = 65536;
 
 // Reads to the end of the input, or until a line is wrong. The blocks' count only bounds the loop: a log that long is wrong much earlier.
-fn read_log(figures: &mut [u64]) -> Month {
+fn read_log<R: Read>(reader: &mut R, figures: &mut [u64]) -> io::Result<Month> {
     let mut m = call_log::start();
     let mut left: u64 = 18446744073709551615;
     while 0 < left {
         let mut block = [0u8; BLOCK];
-        let n = io::read_full(STDIN_FILENO, &mut block);
+        let n = filling::read_full(reader, &mut block)?;
         let next = call_log::feed(m, figures, &block[..n]);
         m = next;
         left -= 1;
@@ -20,13 +21,13 @@ fn read_log(figures: &mut [u64]) -> Month {
             left = 0;
         }
     }
-    m
+    Ok(m)
 }
 
-fn main() {
+fn main(rt: HostRuntime) -> io::Result<()> {
     let mut figures = [0u64; call_log::FIGURES];
-    let m = read_log(&mut figures);
+    let m = read_log(&mut rt.stdin(), &mut figures)?;
     let mut sheet = [0u8; month_sheet::ROOM];
     let length = month_sheet::print(m, &figures, &mut sheet);
-    io::write_all(STDOUT_FILENO, &sheet[..length]);
+    rt.stdout().write_all(&sheet[..length])
 }

@@ -4,23 +4,25 @@
 ghost use Rattle.std.specs.Prelude.{◌≤◌, length};
 ghost use Rattle.cases.specs.Answer.{answer_room};
 
-use libc::{STDIN_FILENO, STDOUT_FILENO};
+use std::io;
+use std::io::Write;
 
 // One answer after the other, each by way of the lent buffer.
-fn answer_all(input: &[u8], out: &mut [u8])
+fn answer_all<W: Write>(writer: &mut W, input: &[u8], out: &mut [u8]) -> io::Result<()>
     requires { answer_room ≤ length out.old }
 {
     let mut at = 0;
     while at < input.len() {
         let length = cases::put_answer(out, &input[at..]);
-        io::write_all(STDOUT_FILENO, &out[..length]);
+        writer.write_all(&out[..length])?;
         at += cases::line_length(&input[at..]);
     }
+    Ok(())
 }
 
-fn main() {
+fn main(rt: HostRuntime) -> io::Result<()> {
     let mut input = [0u8; 262144];
-    let n = io::read_full(STDIN_FILENO, &mut input);
+    let n = filling::read_full(&mut rt.stdin(), &mut input)?;
     let mut out = [0u8; cases::ROOM];
-    answer_all(&input[..n], &mut out);
+    answer_all(&mut rt.stdout(), &input[..n], &mut out)
 }
