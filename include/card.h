@@ -1,7 +1,7 @@
 /*
  * The card: TEA5, TEA6 and TEA7 (ETSI TS 104 053-2) behind thirty-two key slots.
  *
- * Link with libcard.a, which `rt staticlib card` writes. It holds no state of its own, takes no memory and calls
+ * Link with libcard_c.a, which `rt lib` in crates/card_c writes. It holds no state of its own, takes no memory and calls
  * nothing but memcpy and memset. The table of slots is the caller's, and a call sees only what it is lent.
  *
  * Every call but card_slotlist, which answers a length, answers CARD_DONE or the number of a refusal. The tests are made

@@ -2,10 +2,10 @@
  * The checker of conversions: somebody hands over key records before and after a conversion, with pairs of their numbers,
  * and claims that no right grew.
  *
- * Link with libconversion.a, which `rt staticlib conversion` writes; a program that only uses the card needs libcard.a
- * alone. It loads nothing: a record that reads can be checked, also one that the card would not load. What card.h says of
- * answers and of what the caller sees to holds here too. The texts hold keys, of which a call leaves copies in some 10,300
- * bytes of stack: card_wipe_stack of card_wipe.h wipes them.
+ * Link with libconversion_c.a, which `rt lib` in crates/conversion_c writes; a program that only uses the card needs
+ * libcard_c.a alone. It loads nothing: a record that reads can be checked, also one that the card would not load. What
+ * card.h says of answers and of what the caller sees to holds here too. The texts hold keys, of which a call leaves
+ * copies in some 10,300 bytes of stack: card_wipe_stack of card_wipe.h wipes them.
  */
 
 #ifndef CARD_CONVERTED_H

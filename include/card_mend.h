@@ -2,8 +2,8 @@
  * Mending of a key record that an office tool damaged: CR LF at the ends of lines, upper-case hex digits, leading zeros,
  * spaces beside `=`, lines in another order, and the old form 1.
  *
- * Link with libmending.a, which `rt staticlib mending` writes; a program that only uses the card needs libcard.a alone.
- * What card.h says of answers, of refused calls and of what the caller sees to holds here too.
+ * Link with libmending_c.a, which `rt lib` in crates/mending_c writes; a program that only uses the card needs
+ * libcard_c.a alone. What card.h says of answers, of refused calls and of what the caller sees to holds here too.
  *
  * What is mended holds a key, and a call leaves copies of it on the stack below it: card_wipe.h has what wipes them.
  */

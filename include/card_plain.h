@@ -3,8 +3,8 @@
  * gives what the card's own engine gives, bit by bit, and takes hundreds of times as long: for training and for
  * comparison.
  *
- * Link with libplain.a, which `rt staticlib plain` writes; a program that only uses the card needs libcard.a alone.
- * What card.h says of answers, of refused calls and of what the caller sees to holds here too.
+ * Link with libplain_c.a, which `rt lib` in crates/plain_c writes; a program that only uses the card needs libcard_c.a
+ * alone. What card.h says of answers, of refused calls and of what the caller sees to holds here too.
  */
 
 #ifndef CARD_PLAIN_H

@@ -1,18 +1,18 @@
 //! Links the card's static library: the file that `CARD_LIBRARY` names, or the repository's
-//! target/staticlib/libcard.a; with the feature `plain` the plain engine's, `PLAIN_LIBRARY` or libplain.a
-//! there; and with the feature `conversion` that of the checker of conversions, `CONVERSION_LIBRARY` or
-//! libconversion.a there.
+//! crates/card_c/out/libcard_c.a; with the feature `plain` the plain engine's, `PLAIN_LIBRARY` or that
+//! of crates/plain_c; and with the feature `conversion` that of the checker of conversions, `CONVERSION_LIBRARY`
+//! or that of crates/conversion_c.
 
 use std::env;
 use std::path::{Path, PathBuf};
 
 fn main() {
-    link("card", "CARD_LIBRARY");
+    link("card_c", "CARD_LIBRARY");
     if env::var_os("CARGO_FEATURE_PLAIN").is_some() {
-        link("plain", "PLAIN_LIBRARY");
+        link("plain_c", "PLAIN_LIBRARY");
     }
     if env::var_os("CARGO_FEATURE_CONVERSION").is_some() {
-        link("conversion", "CONVERSION_LIBRARY");
+        link("conversion_c", "CONVERSION_LIBRARY");
     }
 }
 
@@ -27,7 +27,7 @@ fn link(crate_name: &str, variable: &str) {
             println!("cargo::rustc-link-lib=static={name}");
         }
         _ => println!(
-            "cargo::error={} is missing, or its name is not lib...a: 'rt staticlib {crate_name}' writes target/staticlib/lib{crate_name}.a, and {variable} may name another file",
+            "cargo::error={} is missing, or its name is not lib...a: 'rt lib' in crates/{crate_name} writes out/lib{crate_name}.a there, and {variable} may name another file",
             library.display()
         ),
     }
@@ -37,11 +37,11 @@ fn library(crate_name: &str, variable: &str) -> PathBuf {
     match env::var_os(variable) {
         Some(path) => PathBuf::from(path),
         None => Path::new(env!("CARGO_MANIFEST_DIR"))
-            .join(format!("../../target/staticlib/lib{crate_name}.a")),
+            .join(format!("../../crates/{crate_name}/out/lib{crate_name}.a")),
     }
 }
 
-/// What the linker calls the library: `card` for libcard.a.
+/// What the linker calls the library: `card_c` for libcard_c.a.
 fn linked_name(library: &Path) -> Option<&str> {
     library
         .file_name()?
