@@ -1,4 +1,1 @@
 pub mod BadTurns
-pub mod SlotLaws
-pub mod LentOn
-pub mod SlotCalls
