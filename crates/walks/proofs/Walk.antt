@@ -5,7 +5,7 @@ pub use base.Fml.{Fml, GName, Lft, Share, fat, fbor, fdies, flft, fobs, froom, f
 pub use base.Logic.{SProp, emp, ent, fst∗, id⊢, sep, via}
 pub use borrow.Author.Tests.{le-ltb, lt-ltb}
 pub use contract.Monad.{Fun}
-pub use contract.Running.{given_of, tables}
+pub use contract.Running.{tables}
 unfoldable pub use contract.Running.{tables_of}
 pub use denote.Array.{Array}
 pub use denote.Builtin.{u16, u64, u8, usize}
@@ -27,8 +27,8 @@ pub use denote.Triple.Spec.{Meets, triple_of}
 pub use denote.Triple.Statement.{Contract, Triple}
 pub use denote.Triple.Table.{cited, entered}
 pub use denote.Triple.Walked.{Stays, ends_at, gave_ref, gave_slice, Goes-dropped, Goes-gave_ref, Goes-gave_slice, Goes-none_slice, Goes-slice, says, stay_dropped, stay_none_slice, stay_slice, walk_Meets, walk_of, walked}
-pub use ghost.Atoms.{Atoms, sem}
-pub use seplogic.Ra.TreeShare.{full_share}
+pub use ghost.Atoms.{Atoms}
+pub use base.Fraction.{full_share}
 pub use seplogic.Ra.Ura.{Ura}
 pub use lib.Dec.{T as Holds, eqb→eq, lit<}
 pub use lib.ListN.{get_or, length, length-set, set}
@@ -45,7 +45,8 @@ pub use prog.Routine.{Routine}
 pub use prog.Wp.{Calls, Env, Heap, Loops, Tables, Wp, WpFn, after_block, after_seq, at_return}
 unfoldable pub use prog.Wp.{after_turn}
 pub use sound.WpLaws.{FmC, WpFn-mono, fm_of}
-pub use types.Kit.{ !, Given, Item, Sq, ◌$◌, ◌∵◌, ◌⊛◌, any_q, at_ret, await, by, done, drop, feq_l, fjoin, frame, fsplit, join, keep, later, move, pick, qed, raw, rewrite, runs, some, split, suffices, use0, use1, use2, ‵, ⋆}
+pub use types.Logic.{Logic, sem}
+pub use types.Kit.{ !, Item, Sq, ◌$◌, ◌∵◌, ◌⊛◌, any_q, at_ret, await, by, done, drop, feq_l, fjoin, frame, fsplit, join, keep, later, move, pick, qed, raw, rewrite, runs, some, split, suffices, use0, use1, use2, ‵, ⋆}
 pub use types.Part.{agg, look_in, sub, whole}
 pub use types.Run.{Below, addr, again, alloc0, alloc1, and_then, assigns, assigns_last, bin, blocks, branches, enter, exec, first, fld, forget, free0, free1, from, hop, init, land, leaves_loop, lit, load, look, look_raw, loops, no_more, of_opd, params1, pass0, pass1, returns, skips, stays, stop, store, store_raw}
 pub use types.Tokens.{lft_end, lft_new}
