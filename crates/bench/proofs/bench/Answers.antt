@@ -21,30 +21,30 @@ returns-then-refusal-ne-DONE c =
 
 pub key_of-requires : goal.key_of-requires
 key_of-requires c =
-    let accepted : bench_refusal (start c).args.algorithm (start c).args.key.now (start c).args.iv.now (start c).args.buf.now (start c).args.n ≡ 0 =
+    let accepted : bench_refusal c.args.algorithm c.args.key.now c.args.iv.now c.args.buf.now c.args.n ≡ 0 =
     sym c.bench_refusal-refusal.ensures ∙ c.if-refusal-ne-DONE.false
     in
-    let passed : KeyedPassed (length (start c).args.key.now) (length (start c).args.iv.now) (length (start c).args.buf.now) 0 (start c).args.n 0 =
+    let passed : KeyedPassed (length c.args.key.now) (length c.args.iv.now) (length c.args.buf.now) 0 c.args.n 0 =
     keyed-passed _ _ _ _ _ _ _ accepted
     in
     passed.key-24
 
 pub iv_of-requires : goal.iv_of-requires
 iv_of-requires c =
-    let accepted : bench_refusal (start c).args.algorithm (start c).args.key.now (start c).args.iv.now (start c).args.buf.now (start c).args.n ≡ 0 =
+    let accepted : bench_refusal c.args.algorithm c.args.key.now c.args.iv.now c.args.buf.now c.args.n ≡ 0 =
     sym c.bench_refusal-refusal.ensures ∙ c.if-refusal-ne-DONE.false
     in
-    let passed : KeyedPassed (length (start c).args.key.now) (length (start c).args.iv.now) (length (start c).args.buf.now) 0 (start c).args.n 0 =
+    let passed : KeyedPassed (length c.args.key.now) (length c.args.iv.now) (length c.args.buf.now) 0 c.args.n 0 =
     keyed-passed _ _ _ _ _ _ _ accepted
     in
     passed.iv-10
 
 pub write_keystream-made-requires : goal.write_keystream-made-requires
 write_keystream-made-requires c =
-    let accepted : bench_refusal (start c).args.algorithm (start c).args.key.now (start c).args.iv.now (start c).args.buf.now (start c).args.n ≡ 0 =
+    let accepted : bench_refusal c.args.algorithm c.args.key.now c.args.iv.now c.args.buf.now c.args.n ≡ 0 =
     sym c.bench_refusal-refusal.ensures ∙ c.if-refusal-ne-DONE.false
     in
-    let passed : KeyedPassed (length (start c).args.key.now) (length (start c).args.iv.now) (length (start c).args.buf.now) 0 (start c).args.n 0 =
+    let passed : KeyedPassed (length c.args.key.now) (length c.args.iv.now) (length c.args.buf.now) 0 c.args.n 0 =
     keyed-passed _ _ _ _ _ _ _ accepted
     in
     let s = passed.span in (s.small, omega arith, omega arith)
@@ -52,10 +52,10 @@ write_keystream-made-requires c =
 pub returns : goal.returns
 unfolding benched bench_blocks
 returns c =
-    let accepted : bench_refusal (start c).args.algorithm (start c).args.key.now (start c).args.iv.now (start c).args.buf.now (start c).args.n ≡ 0 =
+    let accepted : bench_refusal c.args.algorithm c.args.key.now c.args.iv.now c.args.buf.now c.args.n ≡ 0 =
     sym c.bench_refusal-refusal.ensures ∙ c.if-refusal-ne-DONE.false
     in
-    let passed : KeyedPassed (length (start c).args.key.now) (length (start c).args.iv.now) (length (start c).args.buf.now) 0 (start c).args.n 0 =
+    let passed : KeyedPassed (length c.args.key.now) (length c.args.iv.now) (length c.args.buf.now) 0 c.args.n 0 =
     keyed-passed _ _ _ _ _ _ _ accepted
     in
     let a = c.args in

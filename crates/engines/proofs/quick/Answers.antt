@@ -16,21 +16,21 @@ returns-then-refusal-ne-DONE c =
 
 pub key_of-requires : goal.key_of-requires
 key_of-requires c =
-    let passed : KeyedPassed (length (start c).args.key.now) (length (start c).args.iv.now) (length (start c).args.buf.now) 0 (start c).args.n (start c).args.skip =
+    let passed : KeyedPassed (length c.args.key.now) (length c.args.iv.now) (length c.args.buf.now) 0 c.args.n c.args.skip =
     keyed-passed _ _ _ _ _ _ _ (sym c.refusal_of-refusal.ensures ∙ c.if-refusal-ne-DONE.false)
     in
     passed.key-24
 
 pub iv_of-requires : goal.iv_of-requires
 iv_of-requires c =
-    let passed : KeyedPassed (length (start c).args.key.now) (length (start c).args.iv.now) (length (start c).args.buf.now) 0 (start c).args.n (start c).args.skip =
+    let passed : KeyedPassed (length c.args.key.now) (length c.args.iv.now) (length c.args.buf.now) 0 c.args.n c.args.skip =
     keyed-passed _ _ _ _ _ _ _ (sym c.refusal_of-refusal.ensures ∙ c.if-refusal-ne-DONE.false)
     in
     passed.iv-10
 
 pub write_keystream-made-requires : goal.write_keystream-made-requires
 write_keystream-made-requires c =
-    let passed : KeyedPassed (length (start c).args.key.now) (length (start c).args.iv.now) (length (start c).args.buf.now) 0 (start c).args.n (start c).args.skip =
+    let passed : KeyedPassed (length c.args.key.now) (length c.args.iv.now) (length c.args.buf.now) 0 c.args.n c.args.skip =
     keyed-passed _ _ _ _ _ _ _ (sym c.refusal_of-refusal.ensures ∙ c.if-refusal-ne-DONE.false)
     in
     let s = passed.span in (s.small, omega arith, s.streamed)

@@ -19,14 +19,14 @@ iv_of-requires c = (c.requires c.if-refusal-ne-DONE.false).0
 
 pub cipher_from-made-requires : goal.cipher_from-made-requires
 cipher_from-made-requires c =
-    let passed : let a = (start c).args in SpanPassed (length a.buf.now) a.start a.n a.skip =
+    let passed : let a = c.args in SpanPassed (length a.buf.now) a.start a.n a.skip =
     span-passed _ _ _ _ (c.requires c.if-refusal-ne-DONE.false).1
     in
     let s = passed in (s.small, record { inside = omega arith; streamed = omega arith })
 
 pub returns : goal.returns
 returns c =
-    let passed : let a = (start c).args in SpanPassed (length a.buf.now) a.start a.n a.skip =
+    let passed : let a = c.args in SpanPassed (length a.buf.now) a.start a.n a.skip =
     span-passed _ _ _ _ (c.requires c.if-refusal-ne-DONE.false).1
     in
     let a = c.args in

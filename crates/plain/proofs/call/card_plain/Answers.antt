@@ -19,37 +19,37 @@ returns-then-refusal-ne-DONE c =
 
 pub key_of-requires : goal.key_of-requires
 key_of-requires c =
-    let accepted : given_refusal (start c).args.algorithm (start c).args.key.now (start c).args.iv.now (start c).args.buf.now (start c).args.n (start c).args.skip ≡ 0 =
+    let accepted : given_refusal c.args.algorithm c.args.key.now c.args.iv.now c.args.buf.now c.args.n c.args.skip ≡ 0 =
     sym c.refusal_of-refusal.ensures ∙ c.if-refusal-ne-DONE.false
     in
-    let passed : KeyedPassed (length (start c).args.key.now) (length (start c).args.iv.now) (length (start c).args.buf.now) 0 (start c).args.n (start c).args.skip =
+    let passed : KeyedPassed (length c.args.key.now) (length c.args.iv.now) (length c.args.buf.now) 0 c.args.n c.args.skip =
     keyed-passed _ _ _ _ _ _ _ accepted
     in
     passed.key-24
 
 pub iv_of-requires : goal.iv_of-requires
 iv_of-requires c =
-    let accepted : given_refusal (start c).args.algorithm (start c).args.key.now (start c).args.iv.now (start c).args.buf.now (start c).args.n (start c).args.skip ≡ 0 =
+    let accepted : given_refusal c.args.algorithm c.args.key.now c.args.iv.now c.args.buf.now c.args.n c.args.skip ≡ 0 =
     sym c.refusal_of-refusal.ensures ∙ c.if-refusal-ne-DONE.false
     in
-    let passed : KeyedPassed (length (start c).args.key.now) (length (start c).args.iv.now) (length (start c).args.buf.now) 0 (start c).args.n (start c).args.skip =
+    let passed : KeyedPassed (length c.args.key.now) (length c.args.iv.now) (length c.args.buf.now) 0 c.args.n c.args.skip =
     keyed-passed _ _ _ _ _ _ _ accepted
     in
     passed.iv-10
 
 pub write_blocks-requires : goal.write_blocks-requires
 write_blocks-requires c =
-    let accepted : given_refusal (start c).args.algorithm (start c).args.key.now (start c).args.iv.now (start c).args.buf.now (start c).args.n (start c).args.skip ≡ 0 =
+    let accepted : given_refusal c.args.algorithm c.args.key.now c.args.iv.now c.args.buf.now c.args.n c.args.skip ≡ 0 =
     sym c.refusal_of-refusal.ensures ∙ c.if-refusal-ne-DONE.false
     in
-    let passed : KeyedPassed (length (start c).args.key.now) (length (start c).args.iv.now) (length (start c).args.buf.now) 0 (start c).args.n (start c).args.skip =
+    let passed : KeyedPassed (length c.args.key.now) (length c.args.iv.now) (length c.args.buf.now) 0 c.args.n c.args.skip =
     keyed-passed _ _ _ _ _ _ _ accepted
     in
     let s = passed.span in (s.small, omega arith, s.streamed)
 
 pub returns : goal.returns
 returns c =
-    let accepted : given_refusal (start c).args.algorithm (start c).args.key.now (start c).args.iv.now (start c).args.buf.now (start c).args.n (start c).args.skip ≡ 0 =
+    let accepted : given_refusal c.args.algorithm c.args.key.now c.args.iv.now c.args.buf.now c.args.n c.args.skip ≡ 0 =
     sym c.refusal_of-refusal.ensures ∙ c.if-refusal-ne-DONE.false
     in
     let a = c.args in
