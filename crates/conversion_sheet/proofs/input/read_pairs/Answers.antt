@@ -29,7 +29,7 @@ loop-pair-preserved c =
     let at = c.loop-pair.at in
     let some : at < length s = omega (arith, c.if-s-at.false) in
     let named = c.named_by-named.ensures ∙ ap named_by (whole s at some) in
-    let size = c.line_size.ensures.0 ∙ ap line_size (whole s at some) in
+    let size = c.line_size-at.ensures.0 ∙ ap line_size (whole s at some) in
     going_more c.loop-pair.invariant some c.loop-pair-test.true (ap (λ (n : Named). n.«before») named) (ap (λ (n : Named). n.after) named) size
 
 pub returns : goal.returns

@@ -5,7 +5,7 @@ use mathlib.Core.Path.{sym, ◌∙◌}
 use Prim.Native.Nat.{◌-◌}
 use native.Mathlib.Omega.{arith}
 use borrow.Author.Rules.{rules}
-use borrow.Author.Tests.{eqb-true}
+use borrow.Author.Tests.{ne_eqb}
 use Rattle.conversion_sheet.proofs.Inputs.{empty-here, empty-later, empty-end}
 use Rattle.conversion_sheet.proofs.input.text_size.Goals as goal
 
@@ -15,12 +15,12 @@ loop-i-init c = (search rules, omega arith)
 pub returns-then-ends : goal.returns-then-ends
 returns-then-ends c =
     let loop = c.loop-i in
-    (sym (loop.invariant.1 ∙ empty-here _ loop.i _ c.loop-i-test.true c.if-starts.true (eqb-true _ 10 c.if-ends.true)), loop.invariant.0)
+    (sym (loop.invariant.1 ∙ empty-here _ loop.i _ c.loop-i-test.true c.if-starts.true c.if-ends.true), loop.invariant.0)
 
 pub loop-i-preserved : goal.loop-i-preserved
 loop-i-preserved c =
     let loop = c.loop-i in
-    (search rules, loop.invariant.1 ∙ empty-later _ loop.i _ c.loop-i-test.true (⊎_elim (λ w. rw w.0.taken w.1.left) (λ w. rw w.left) c.if-starts.branch))
+    (search rules, loop.invariant.1 ∙ empty-later _ loop.i _ c.loop-i-test.true (⊎_elim (λ w. rw (w.0, ne_eqb _ 10 w.1)) (λ w. rw w) c.else-starts.either))
 
 pub returns : goal.returns
 returns c =
