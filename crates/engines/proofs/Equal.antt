@@ -4,7 +4,7 @@
 use mathlib.Core.Path.{◌≡◌, sym, ap, ◌∙◌}
 use mathlib.Core.List.{List}
 use Prim.Native.Nat.{ℕ}
-use denote.Ref.{Bor}
+use denote.Ref.{Bor, MutBor}
 use Rattle.ciphering.specs.declared.Report.{Report}
 use Rattle.ciphering.specs.Span.{Ciphered}
 use Rattle.card.proofs.bench_call.card_bench.Reads as card-bench
@@ -14,7 +14,7 @@ use Rattle.plain.proofs.call.card_plain.Reads as card-plain
 use Rattle.engines.proofs.quick.Reads as quick
 
 -- two calls, whose keys, initial values and buffers hold the same bytes
-module _ (algorithm n : ℕ) (key iv buf key' iv' buf' : Bor (List ℕ)) (blocks : Bor ℕ)
+module _ (algorithm n : ℕ) (key iv : Bor (List ℕ)) (buf : MutBor (List ℕ)) (key' iv' : Bor (List ℕ)) (buf' : MutBor (List ℕ)) (blocks : MutBor ℕ)
     (same_key : key.now ≡ key'.now) (same-iv : iv.now ≡ iv'.now) (same-buf : buf.now ≡ buf'.now) where
   -- refusal, whole buffer and blocks are the same: the buffer is the fourth parameter, and the plain engine's number of blocks the seventh
   pub plain-is-quick : (skip r : ℕ) (s : Report) (κs κs' : _) (e e' : _)
@@ -28,7 +28,7 @@ module _ (algorithm n : ℕ) (key iv buf key' iv' buf' : Bor (List ℕ)) (blocks
   )
 
   -- the bench call's number of blocks is its sixth parameter
-  pub plain-is-bench : (blocks' : Bor ℕ) (r s : ℕ) (κs κs' : _) (e e' : _)
+  pub plain-is-bench : (blocks' : MutBor ℕ) (r s : ℕ) (κs κs' : _) (e e' : _)
       → card-plain.Learnt κs (algorithm, (key, (iv, (buf, (n, (0, (blocks, tt))))))) r e
       → card-bench.Learnt κs' (algorithm, (key', (iv', (buf', (n, (blocks', tt)))))) s e'
       → (r ≡ s) × (e.1.1.1.0.now ≡ e'.1.1.1.0.now) × (e.1.1.1.1.1.1.0.now ≡ e'.1.1.1.1.1.0.now)
