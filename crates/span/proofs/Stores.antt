@@ -11,7 +11,7 @@ use lib.Dec.{lit<}
 use lib.Pow.{shr-shr, pow_mono}
 use lib.Seq.{get_or-set_other}
 use Rattle.laws.specs.Bits.{bit_of, bit_at, byte_of_bits}
-use Rattle.laws.proofs.Cases.{lt-or-le}
+use Rattle.laws.proofs.Cases.{below-eight, lt-or-le}
 use Rattle.laws.proofs.Bits.{bit-xor, low-kept, low-gone, high-kept, high-gone, at_byte, byte-is-bits, bits-of-byte, byte-lt, byte-ext, set-bytes}
 use Rattle.span.specs.Span.{span_bit, put_bit, xored, written, zeroed, nought}
 use Rattle.span.proofs.Within.{Binary, Beside, within_in, within-out, in-or-out, nought-lt}
@@ -132,7 +132,7 @@ pub power : (d : ℕ) → d ≤ 8 → 1 * 2 ^ d % 2 ^ 32 ≡ 2 ^ d
 power d h = ap (λ (m : ℕ). m % 2 ^ 32) (one-mul (2 ^ d)) ∙ mod-eq_of_lt (lt_of_le_of_lt (pow_mono h) (lit< tt))
 
 -- eight bits from bit o on of the number that two bytes are
-pub eight_is : (a b o : ℕ) → b < 256 → o < 8 → (a * 256 + b) / 2 ^ (8 - o) % 256 ≡ byte_of_bits (λ t. bit_at (a ∷ b ∷ []) (o + t))
+eight_is : (a b o : ℕ) → b < 256 → o < 8 → (a * 256 + b) / 2 ^ (8 - o) % 256 ≡ byte_of_bits (λ t. bit_at (a ∷ b ∷ []) (o + t))
 unfolding bit_of bit_at
 eight_is a b o hb ho =
     sym (byte-is-bits (n / 2 ^ (8 - o) % 256) (mod-lt (n / 2 ^ (8 - o)) (lit< tt)))
@@ -167,6 +167,16 @@ eight_is a b o hb ho =
         ∙ ap (λ (i : ℕ). n / 2 ^ i % 2) e
         ∙ sym (low-kept n 8 (o + t - 8) (omega arith) (omega arith))
         ∙ ap (λ (i : ℕ). bit_of i (o + t - 8)) q)
+
+-- the same of each byte by itself, as it is shifted in 32 bits
+eight_by_bytes : (a b o : ℕ) → a < 256 → b < 256 → o < 8 → a * 2 ^ o % 2 ^ 32 % 256 + b * 2 ^ o % 2 ^ 32 / 256 ≡ (a * 256 + b) / 2 ^ (8 - o) % 256
+eight_by_bytes a b o ha hb =
+    below-eight (λ i. a * 2 ^ i % 2 ^ 32 % 256 + b * 2 ^ i % 2 ^ 32 / 256 ≡ (a * 256 + b) / 2 ^ (8 - i) % 256)
+    (omega arith) (omega arith) (omega arith) (omega arith) (omega arith) (omega arith) (omega arith) (omega arith) o
+
+pub eight_parts : (a b o : ℕ) → a < 256 → b < 256 → o < 8
+    → a * 2 ^ o % 2 ^ 32 % 256 + b * 2 ^ o % 2 ^ 32 / 256 ≡ byte_of_bits (λ t. bit_at (a ∷ b ∷ []) (o + t))
+eight_parts a b o ha hb ho = eight_by_bytes a b o ha hb ho ∙ eight_is a b o hb ho
 
 -- two bytes in a row of a list
 pub pair-at : (z : List ℕ) (q i : ℕ) → i < 16 → bit_at (get_or z q 0 ∷ get_or z (q + 1) 0 ∷ []) i ≡ bit_at z (8 * q + i)

@@ -37,12 +37,13 @@ fn last_off(b: u8, d: usize) -> u8
     b ^ low_bits(b, d)
 }
 
-// Eight bits that start at bit o of the first of two bytes.
-fn eight(a: u8, b: u8, o: u32) -> u8
+// Eight bits that start at bit o of the first of two bytes. Each byte is shifted by itself, and what comes of it is a byte only after the xor: with both in
+// one number, or a byte sooner, the loop that the compiler makes is as fast, and leaves more of a block in registers.
+fn eight(a: u8, b: u8, o: u32) -> u32
     requires { o < 8 }
     ensures { result ≡ byte_of_bits (λ t. bit_at (a ∷ b ∷ []) (o + t)) }
 {
-    ((((a as u32) * 256 + (b as u32)) >> (8 - o)) % 256) as u8
+    ((a as u32) << o) % 256 + ((b as u32) << o) / 256
 }
 
 // The block with a byte 0 before it, and two after it.
@@ -86,7 +87,7 @@ fn xor_shifted(s: &mut [u8], z: [u8; 35], d: usize, o: u32, count: usize)
     ensures { s.new ≡ xored s.old (bit_at z) 0 (8 * d + o) (8 * count) }
 {
     for y in 0..count {
-        s[y] = s[y] ^ eight(z[d + y], z[d + y + 1], o);
+        s[y] = (eight(z[d + y], z[d + y + 1], o) ^ (s[y] as u32)) as u8;
     }
 }
 
