@@ -1,7 +1,7 @@
 // Rijndael with blocks of 256 bits and keys of 192 bits: 14 rounds on a state of four rows by eight columns.
 #![tactic(auto)]
 
-ghost use Rattle.std.specs.Prelude.{◌≡◌, length};
+ghost use Rattle.std.specs.Prelude.{◌≡◌, ◌+◌, ◌*◌, length, get_or};
 ghost use Rattle.gf256.specs.Field.{s_boxes};
 ghost use Rattle.products.specs.Products.{products};
 ghost use Rattle.rijndael.specs.Cipher.{to_state, to_block, encrypted};
@@ -37,17 +37,38 @@ pub fn to_block(s: [[u8; 8]; 4]) -> [u8; 32]
     b
 }
 
-// The initial key, rounds 1 to 13, and the final round. Between two rounds the state is eight words.
+// Words 0 and 2 of a state, as one number.
+fn pair_of(t: [u32; 8]) -> u64
+    ensures { result ≡ get_or t 0 0 + get_or t 2 0 * 4294967296 }
+{
+    (t[0] as u64) + (t[2] as u64) * 4294967296
+}
+
+// The state, with those two words taken from their number.
+fn with_pair(t: [u32; 8], pair: u64) -> [u32; 8]
+    requires { pair ≡ get_or t 0 0 + get_or t 2 0 * 4294967296 }
+    ensures { result ≡ t }
+{
+    let mut x = t;
+    x[0] = (pair % 4294967296) as u32;
+    x[2] = (pair / 4294967296) as u32;
+    x
+}
+
+// The initial key, rounds 1 to 13, and the final round. Between two rounds the state is eight words, and two of them go on as one number: of eight
+// that are alike the compiler takes four into one vector register, where a round takes longer and its keys stay behind.
 fn encrypt(s: [[u8; 8]; 4], w: &[u32], table: &[u8; 256], mixes: &[u8; 2048]) -> [[u8; 8]; 4]
     requires { (length w.now ≡ 120) × ((table.now ≡ s_boxes) × (mixes.now ≡ products)) }
     ensures { result ≡ encrypted w.now s }
 {
     let mut t = keyed_words(s, w);
+    let mut pair = pair_of(t);
     for n in 1..14 {
-        let u = to_words(round(from_words(t), w, n, mixes));
+        let u = to_words(round(from_words(with_pair(t, pair)), w, n, mixes));
         t = u;
+        pair = pair_of(t);
     }
-    last_round(from_words(t), w, 14, table)
+    last_round(from_words(with_pair(t, pair)), w, 14, table)
 }
 
 // A block under a schedule. It is the one caller of `encrypt`, which is inlined only so.

@@ -1,6 +1,6 @@
 -- `rijndael::to_block`: four entries a turn, `Filled`. Assumes nothing.
 use mathlib.Core.Path.{refl}
-use Prim.Native.Nat.{◌-◌, ◌<◌}
+use Prim.Native.Nat.{◌<◌}
 use borrow.Author.Rules.{rules}
 use Rattle.rijndael.specs.Cipher.{to_block}
 use Rattle.laws.proofs.Lists.{fill_none, fill-all}

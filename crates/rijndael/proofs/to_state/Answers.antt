@@ -1,6 +1,6 @@
 -- `rijndael::to_state`: column by column, `Columns`. Assumes nothing.
 use mathlib.Core.Path.{refl, sym, ap}
-use Prim.Native.Nat.{ℕ, ◌-◌, ◌*◌}
+use Prim.Native.Nat.{ℕ, ◌*◌}
 use native.Mathlib.Nat.{add-zero}
 use lib.ListN.{get_or}
 use Rattle.rijndael.specs.Cipher.{to_state}
