@@ -6,7 +6,7 @@ ghost use Rattle.tea.specs.Keystream.{block_of};
 ghost use Rattle.plain.specs.Given.{given_refusal, given_buffer, given_blocks};
 
 use plain_blocks::blocks::block;
-use plain_blocks::mode::mode_of;
+use plain_blocks::mode::mode_of_lent;
 use tea::mode::Mode;
 
 // Whether keystream may be had from bit `skip` on: the bench call's tests, with the skip.
@@ -73,11 +73,7 @@ pub extern "C" fn card_plain(
     if refusal != refusals::DONE {
         return refusal;
     }
-    let mode = mode_of(
-        algorithm,
-        ciphering::lent::key_of(key),
-        ciphering::lent::iv_of(iv),
-    );
+    let mode = mode_of_lent(algorithm, key, ciphering::lent::iv_of(iv));
     *blocks = write_blocks(buf, n, skip, mode);
     refusals::DONE
 }

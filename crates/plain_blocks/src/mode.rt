@@ -1,5 +1,5 @@
 // The mode key CKM and the mode value IVM: clauses 5.3, 6.3, 7.3.
-ghost use Rattle.std.specs.Prelude.{◌≡◌, ◌+◌, ◌*◌, ◌/◌, ◌%◌};
+ghost use Rattle.std.specs.Prelude.{◌≡◌, ◌+◌, ◌*◌, ◌/◌, ◌%◌, length};
 ghost use Rattle.tea.specs.Mixing.{mixed_value};
 ghost use Rattle.tea.specs.Mode.{combined, mode_by, mode_of};
 
@@ -35,9 +35,10 @@ fn second(f: &[u8; 256], c: u8, v: u8) -> u8
     f[(c % 16 * 16 + v % 16) as usize]
 }
 
-// By the lent table of f. Byte k of IVX is b[20 + k].
-fn mode_by(f: &[u8; 256], digit: u8, ck: [u8; 24], iv: [u8; 10]) -> Mode
-    ensures { result ≡ mode_by f.now digit ck (mixed_value iv) }
+// By the lent table of f, with the key where it lies, so that no copy of it is made. Byte k of IVX is b[20 + k].
+fn mode_by(f: &[u8; 256], digit: u8, ck: &[u8], iv: [u8; 10]) -> Mode
+    requires { length ck.now ≡ 24 }
+    ensures { result ≡ mode_by f.now digit ck.now (mixed_value iv) }
 {
     let mut ckm = [0u8; 24];
     let mut ivm = [0u8; 24];
@@ -55,10 +56,18 @@ fn mode_by(f: &[u8; 256], digit: u8, ck: [u8; 24], iv: [u8; 10]) -> Mode
     }
 }
 
-// f is the standard's table: clauses 5.6, 6.6, 7.6.
-pub fn mode_of(algorithm: u64, ck: [u8; 24], iv: [u8; 10]) -> Mode
-    ensures { result ≡ mode_of algorithm ck iv }
+// f is the standard's table: clauses 5.6, 6.6, 7.6. The key is lent.
+pub fn mode_of_lent(algorithm: u64, ck: &[u8], iv: [u8; 10]) -> Mode
+    requires { length ck.now ≡ 24 }
+    ensures { result ≡ mode_of algorithm ck.now iv }
 {
     let f = combining_table(algorithm);
     mode_by(&f, digit(algorithm), ck, iv)
+}
+
+// The same of a key by value.
+pub fn mode_of(algorithm: u64, ck: [u8; 24], iv: [u8; 10]) -> Mode
+    ensures { result ≡ mode_of algorithm ck iv }
+{
+    mode_of_lent(algorithm, &ck[..], iv)
 }

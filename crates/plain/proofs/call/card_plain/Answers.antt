@@ -17,8 +17,8 @@ returns-then-refusal-ne-DONE c =
     let no = given-refused _ _ _ _ _ _ (λ z. c.if-refusal-ne-DONE.true (e ∙ z)) in
     (e, sym no.0, sym no.1)
 
-pub key_of-requires : goal.key_of-requires
-key_of-requires c =
+pub mode_of_lent-mode-requires : goal.mode_of_lent-mode-requires
+mode_of_lent-mode-requires c =
     let accepted : given_refusal c.args.algorithm c.args.key.now c.args.iv.now c.args.buf.now c.args.n c.args.skip ≡ 0 =
     sym c.refusal_of-refusal.ensures ∙ c.if-refusal-ne-DONE.false
     in
@@ -57,7 +57,7 @@ returns c =
       sym accepted,
       c.write_blocks.ensures.0
           ∙ ap (λ (m : Mode). written a.buf.now (stream_bit (block_of m)) 0 a.skip a.n)
-          (c.mode_of-mode.ensures ∙ (λ i. mode_of a.algorithm (c.key_of.ensures i) (c.iv_of.ensures i)))
+          (c.mode_of_lent-mode.ensures ∙ ap (mode_of a.algorithm a.key.now) c.iv_of.ensures)
           ∙ sym yes.0,
       c.write_blocks.ensures.1 ∙ sym yes.1,
     )

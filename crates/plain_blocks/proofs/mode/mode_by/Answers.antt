@@ -1,7 +1,7 @@
 -- `plain_blocks::mode::mode_by`: both lists are filled side by side; byte k of the mixed value is b[20 + k]. Assumes nothing.
 use mathlib.Core.Path.{◌≡◌, refl, sym, ap, ◌∙◌}
 use mathlib.Core.List.{List}
-use Prim.Native.Nat.{ℕ, ◌+◌, ◌/◌, ◌%◌, ◌-◌, ◌<◌}
+use Prim.Native.Nat.{ℕ, ◌+◌, ◌/◌, ◌%◌, ◌<◌}
 use lib.ListN.{get_or}
 use Rattle.laws.proofs.Lists.{tabulate-at}
 use Rattle.tea.specs.Mixing.{expanded_byte, mixed_value}
@@ -22,8 +22,8 @@ loop-k-preserved c =
     let h : k < 24 = c.loop-k-test.true in
     let v : c.byte-v.result ≡ get_or (mixed_value a.iv) k 0 = c.byte-v.ensures ∙ mixed-at a.iv k h in
     halves-more c.loop-k.invariant h _ _ _ _
-    (c.first-x.ensures ∙ ap (λ (m : ℕ). combined a.f.now (get_or a.ck k 0 / 16) (m / 16)) v)
-    (c.second-y.ensures ∙ ap (λ (m : ℕ). combined a.f.now (get_or a.ck k 0 % 16) (m % 16)) v)
+    (c.first-x.ensures ∙ ap (λ (m : ℕ). combined a.f.now (get_or a.ck.now k 0 / 16) (m / 16)) v)
+    (c.second-y.ensures ∙ ap (λ (m : ℕ). combined a.f.now (get_or a.ck.now k 0 % 16) (m % 16)) v)
     c.key_byte.ensures c.value_byte.ensures
 
 pub loop-k-init : goal.loop-k-init
