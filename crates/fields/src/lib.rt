@@ -2,13 +2,14 @@
 #![tactic(auto)]
 
 ghost use Rattle.std.specs.Prelude.{◌≡◌, true, ◌&&◌, leb};
+ghost use Rattle.refusals.specs.Refused.{number_of};
 ghost use Rattle.fields.specs.Fields.{between, is_slot_number, is_algorithm, out_of_service, is_use, rights_refusal, all_in_range, stored_of};
 
-use refusals::refuse;
+use refusals::Refusal;
 
 // As a slot holds them. Usage is 1 send, 2 receive, 3 both.
 #[repr(C)]
-#[derive(Clone, Copy)]
+#[derive(Clone, Copy, Debug, PartialEq, Eq)]
 pub struct Fields {
     pub version: u16,
     pub algorithm: u8,
@@ -20,7 +21,7 @@ pub struct Fields {
 }
 
 // As a caller gives them: wide, so that no number that an engineer can type is cut before it is refused.
-#[derive(Clone, Copy)]
+#[derive(Clone, Copy, Debug, PartialEq, Eq)]
 pub struct Asked {
     pub version: u16,
     pub algorithm: u64,
@@ -69,22 +70,12 @@ fn both_at_most(a: u64, most_a: u64, b: u64, most_b: u64) -> bool
 }
 
 // Refusals 10, 11 and 20, in this order.
-pub fn rights_refusal(a: Asked) -> u8
-    ensures { result ≡ rights_refusal a }
+pub fn rights_refusal(a: Asked) -> Result<(), Refusal>
+    ensures { number_of result ≡ rights_refusal a }
 {
-    refuse(
-        !is_use(a.usage),
-        refusals::CODE,
-        refuse(
-            !both_at_most(a.side, 1, a.place, 79),
-            refusals::SIDE_OR_PLACE,
-            refuse(
-                !both_at_most(a.mcc, 1023, a.mnc, 16383),
-                refusals::NETWORK,
-                refusals::DONE,
-            ),
-        ),
-    )
+    Refusal::CodeUnknown.when(!is_use(a.usage))?;
+    Refusal::SideOrPlaceBad.when(!both_at_most(a.side, 1, a.place, 79))?;
+    Refusal::NetworkBad.when(!both_at_most(a.mcc, 1023, a.mnc, 16383))
 }
 
 // The fields in a slot's own widths.
