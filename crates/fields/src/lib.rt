@@ -3,7 +3,7 @@
 
 ghost use Rattle.std.specs.Prelude.{◌≡◌, true, ◌&&◌, leb};
 ghost use Rattle.refusals.specs.Refused.{number_of};
-ghost use Rattle.fields.specs.Fields.{between, is_slot_number, is_algorithm, out_of_service, is_use, rights_refusal, all_in_range, stored_of};
+ghost use Rattle.fields.specs.Fields.{between, is_slot_number, is_algorithm, out_of_service, is_use, rights_refusal, all_in_range, stored_of, asked_of};
 
 use refusals::Refusal;
 
@@ -91,5 +91,22 @@ pub fn stored(a: Asked) -> Fields
         place: a.place as u8,
         mcc: a.mcc as u16,
         mnc: a.mnc as u16,
+    }
+}
+
+// Every number that a slot holds can be asked for.
+impl From<Fields> for Asked {
+    ghost from_gives = { λ f a. a ≡ asked_of f };
+
+    fn from(f: Fields) -> Asked {
+        Asked {
+            version: f.version,
+            algorithm: f.algorithm as u64,
+            usage: f.usage as u64,
+            side: f.side as u64,
+            place: f.place as u64,
+            mcc: f.mcc as u64,
+            mnc: f.mnc as u64,
+        }
     }
 }

@@ -1,1 +1,2 @@
 mod Tags
+pub mod Judged

@@ -9,6 +9,7 @@ use borrow.Author.Tests.{not-true, ne_eqb}
 use lib.Dec.{eqb}
 use lib.ListN.{length, get_or, set, drop, drop_of_length-le}
 use lib.Seq.{drop-cons}
+use Rattle.std.specs.List.{list_any}
 use Rattle.laws.proofs.Cases.{and_left, and_right, neither}
 use Rattle.refusals.specs.Numbers.{done, code_unknown, side_or_place_bad, network_bad, refuse}
 use Rattle.fields.specs.declared.Asked.{Asked}
@@ -41,6 +42,11 @@ filled-by s a e = sym (ap all_in_range e) ∙ in-range a
 pub bad-next : (table : List Slot) (i : ℕ) → i < length table → has_bad (drop i table) ≡ is_bad (get_or table i nil) || has_bad (drop (i + 1) table)
 unfolding has_bad
 bad-next table i h = rw (add-one, drop-cons table i nil h)
+
+pub has_bad-any : (table : List Slot) → has_bad table ≡ list_any is_bad table
+unfolding has_bad
+has_bad-any [] = refl
+has_bad-any (s ∷ table) = ap (λ (t : Bool). is_bad s || t) (has_bad-any table)
 
 pub bad-none : (table : List Slot) (i : ℕ) → length table ≤ i → has_bad (drop i table) ≡ false
 unfolding has_bad

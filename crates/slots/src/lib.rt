@@ -2,7 +2,7 @@
 #![tactic(auto)]
 
 ghost use Rattle.std.specs.Prelude.{◌≡◌, true, ◌-◌, ◌<◌};
-ghost use Rattle.fields.specs.Fields.{is_slot_number, asked_of};
+ghost use Rattle.fields.specs.Fields.{is_slot_number};
 ghost use Rattle.slots.specs.Slots.{no_fields, is_no_fields, all_zero, is_empty, is_filled, is_bad, has_bad, empty, keyless, empty_table, slot_at, with_slot};
 
 use fields::{Asked, Fields};
@@ -45,20 +45,6 @@ pub fn empty_table() -> [Slot; 32]
     [slot; 32]
 }
 
-pub fn asked(f: Fields) -> Asked
-    ensures { result ≡ asked_of f }
-{
-    Asked {
-        version: f.version,
-        algorithm: f.algorithm as u64,
-        usage: f.usage as u64,
-        side: f.side as u64,
-        place: f.place as u64,
-        mcc: f.mcc as u64,
-        mnc: f.mnc as u64,
-    }
-}
-
 pub fn is_no_fields(f: Fields) -> bool
     ensures { result ≡ is_no_fields f }
 {
@@ -69,11 +55,9 @@ pub fn is_no_fields(f: Fields) -> bool
 fn all_zero(key: [u8; 24]) -> bool
     ensures { result ≡ all_zero key }
 {
-    let mut joined: u8 = 0;
-    let mut i: usize = 0;
-    while i < 24 {
-        joined = joined | key[i];
-        i += 1;
+    let mut joined = 0;
+    for b in key {
+        joined |= b;
     }
     joined == 0
 }
@@ -82,23 +66,20 @@ fn all_zero(key: [u8; 24]) -> bool
 pub fn is_empty(slot: Slot) -> bool
     ensures { result ≡ is_empty slot }
 {
-    let f = slot.fields;
-    let k = slot.key;
-    is_no_fields(f) && all_zero(k)
+    is_no_fields(slot.fields) && all_zero(slot.key)
 }
 
 pub fn are_filled(f: Fields) -> bool
     ensures { result ≡ is_filled (keyless f) }
 {
-    let a = asked(f);
-    fields::is_algorithm(a.algorithm) && fields::rights_refusal(a) == refusals::DONE
+    let asked = Asked::from(f);
+    fields::is_algorithm(asked.algorithm) && fields::rights_refusal(asked).is_ok()
 }
 
 pub fn is_filled(slot: Slot) -> bool
     ensures { result ≡ is_filled slot }
 {
-    let f = slot.fields;
-    are_filled(f)
+    are_filled(slot.fields)
 }
 
 pub fn is_bad(slot: Slot) -> bool
@@ -110,20 +91,13 @@ pub fn is_bad(slot: Slot) -> bool
 pub fn table_is_bad(table: [Slot; 32]) -> bool
     ensures { result ≡ has_bad table }
 {
-    let mut i: usize = 0;
-    while i < 32 {
-        let slot = table[i];
-        if is_bad(slot) {
-            return true;
-        }
-        i += 1;
-    }
-    false
+    table.iter().any(|slot| is_bad(*slot))
 }
 
 fn index_of(number: u64) -> usize
     requires { is_slot_number number ≡ true }
-    ensures { (result ≡ number - 1) × (result < 32) }
+    ensures place { result ≡ number - 1 }
+    ensures within { result < 32 }
 {
     (number - 1) as usize
 }

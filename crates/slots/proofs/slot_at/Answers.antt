@@ -2,4 +2,4 @@
 use Rattle.slots.proofs.slot_at.Goals as goal
 
 pub returns : goal.returns
-returns c = rw c.index_of.ensures.0
+returns c = rw c.index_of.ensures.place

@@ -1,17 +1,14 @@
--- `slots::table_is_bad`: no slot that was passed is bad. Assumes nothing.
+-- `slots::table_is_bad`: the first bad slot decides. Assumes nothing.
 use mathlib.Core.Path.{sym, ◌∙◌}
-use Prim.Native.Nat.{◌-◌}
+use borrow.Author.Tests.{tests}
 use borrow.Author.Rules.{rules}
-use Rattle.slots.proofs.Tables.{bad-next, bad-none}
+use Rattle.std.proofs.lemmas.Iterator.{YieldsList-from_slice}
+use Rattle.std.proofs.lemmas.Iterator.Search.{any_from_yields_List}
+use Rattle.slots.specs.Slots.{is_bad}
+use Rattle.slots.proofs.Tables.{has_bad-any}
 use Rattle.slots.proofs.table_is_bad.Goals as goal
 
-pub returns-then-is_bad : goal.returns-then-is_bad
-returns-then-is_bad c =
-    rw (c.loop-i.invariant.1, bad-next c.args.table c.loop-i.i (search rules), sym c.is_bad.ensures ∙ c.if-is_bad.true)
-
-pub loop-i-preserved : goal.loop-i-preserved
-loop-i-preserved c =
-    (search rules, rw (c.loop-i.invariant.1, bad-next c.args.table c.loop-i.i (search rules), sym c.is_bad.ensures ∙ c.if-is_bad.false))
-
 pub returns : goal.returns
-returns c = sym (c.loop-i.invariant.1 ∙ bad-none c.args.table c.loop-i.i (search rules))
+returns c =
+    any_from_yields_List is_bad _ _ c.any.result c.any.ensures.ran (YieldsList-from_slice c.args.table cc) (λ x b q k. search (rules, tests))
+    ∙ sym (has_bad-any c.args.table)
