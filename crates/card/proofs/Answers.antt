@@ -3,7 +3,7 @@ use mathlib.Core.Path.{◌≡◌}
 use mathlib.Core.List.{List}
 use Prim.Native.Nat.{ℕ}
 use Rattle.slots.specs.declared.Slot.{Slot}
-use Rattle.slot_calls.specs.declared.Changed.{Changed}
+use Rattle.slot_calls.specs.Answers.{Changed}
 use Rattle.faces.specs.Faces.{changed_as}
 
 pub changed-is : (c : Changed) {r : ℕ} {t : List Slot} → (r ≡ c.refusal) × (t ≡ c.table) → changed_as r t ≡ c

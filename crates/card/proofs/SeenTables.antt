@@ -14,10 +14,9 @@ use Rattle.fields.specs.declared.Asked.{Asked}
 use Rattle.fields.specs.Fields.{is_slot_number}
 use Rattle.fields.proofs.Ranges.{between-low, between-high}
 use Rattle.slots.specs.declared.Slot.{Slot}
-use Rattle.slot_calls.specs.declared.Put.{Put}
+use Rattle.slot_calls.specs.Answers.{Put, Changed}
 use Rattle.slots.specs.Slots.{has_bad, empty, keyless, nil, slot_at, with_slot}
 use Rattle.rights.specs.Rights.{stays_within}
-use Rattle.slot_calls.specs.declared.Changed.{Changed}
 use Rattle.slot_calls.specs.Calls.{move_refusal_of, shown_of}
 use Rattle.slot_calls.specs.Seen.{key_slot, put_to, changed_by, load_put, move_put, emptied_by, clear_put}
 use Rattle.slots.proofs.Tables.{good-at}

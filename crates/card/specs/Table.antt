@@ -3,8 +3,7 @@
 use Rattle.std.specs.Prelude.{List, ℕ}
 use Rattle.fields.specs.declared.Asked.{Asked}
 use Rattle.slots.specs.declared.Slot.{Slot}
-use Rattle.slot_calls.specs.declared.Changed.{Changed}
-use Rattle.slot_calls.specs.declared.Shown.{Shown}
+use Rattle.slot_calls.specs.Answers.{Changed, Shown}
 use Rattle.slots.specs.Slots.{slot_at}
 use Rattle.slot_list.specs.List.{is_no_table}
 use Rattle.slot_calls.specs.Calls.{loaded_by, moved_by, cleared_by, shown_of}

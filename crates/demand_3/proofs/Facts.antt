@@ -15,8 +15,7 @@ use Rattle.fields.specs.declared.Asked.{Asked}
 use Rattle.fields.specs.Fields.{asked_of}
 use Rattle.fields.proofs.Ranges.{place-high}
 use Rattle.slots.specs.declared.Slot.{Slot}
-use Rattle.slot_calls.specs.declared.Changed.{Changed}
-use Rattle.slot_calls.specs.declared.Shown.{Shown}
+use Rattle.slot_calls.specs.Answers.{Changed, Shown}
 use Rattle.slots.specs.Slots.{has_bad, is_filled, empty, slot_at, with_slot}
 use Rattle.rights.specs.Rights.{within, includes}
 use Rattle.slot_calls.specs.Calls.{move_refusal, answered, moved}

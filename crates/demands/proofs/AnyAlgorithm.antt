@@ -13,7 +13,7 @@ use Rattle.refusals.specs.Numbers.{done}
 use Rattle.fields.specs.Fields.{is_algorithm, no_fields}
 use Rattle.fields.proofs.Ranges.{between-low}
 use Rattle.slots.specs.declared.Slot.{Slot}
-use Rattle.slot_calls.specs.declared.Shown.{Shown}
+use Rattle.slot_calls.specs.Answers.{Shown}
 use Rattle.slots.specs.Slots.{is_empty, is_filled, is_bad, has_bad, nil, slot_at}
 use Rattle.slot_calls.specs.Calls.{move_refusal_of, slot_refusal_of, clear_refusal_of, shown_of}
 use Rattle.slot_list.specs.List.{is_no_table}

@@ -13,7 +13,7 @@ use Rattle.laws.specs.Choice.{pick}
 use Rattle.refusals.specs.Numbers.{done, record_text_bad}
 use Rattle.fields.specs.declared.Asked.{Asked}
 use Rattle.slots.specs.declared.Slot.{Slot}
-use Rattle.slot_calls.specs.declared.Shown.{Shown}
+use Rattle.slot_calls.specs.Answers.{Shown}
 use Rattle.fields.specs.Fields.{no_fields}
 use Rattle.slots.specs.Slots.{slot_at}
 use Rattle.slot_calls.specs.Calls.{load_refusal_of, move_refusal_of, clear_refusal_of}

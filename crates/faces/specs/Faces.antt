@@ -6,8 +6,7 @@ use Rattle.record_reader.specs.declared.RecordRead.{RecordRead}
 use Rattle.record_writer.specs.Written.{record_written, buffer_written}
 use Rattle.plan.specs.declared.Plan.{Plan}
 use Rattle.slots.specs.declared.Slot.{Slot}
-use Rattle.slot_calls.specs.declared.Changed.{Changed}
-use Rattle.slot_calls.specs.declared.Shown.{Shown}
+use Rattle.slot_calls.specs.Answers.{Changed, Shown}
 use Rattle.whole.specs.declared.Pdu.{Pdu}
 
 -- the fields that a caller gives one by one

@@ -11,7 +11,7 @@ use Rattle.laws.specs.Choice.{pick}
 use Rattle.refusals.specs.Numbers.{done}
 use Rattle.fields.specs.Fields.{is_slot_number, asked_of}
 use Rattle.slots.specs.declared.Slot.{Slot}
-use Rattle.slot_calls.specs.declared.Changed.{Changed}
+use Rattle.slot_calls.specs.Answers.{Changed}
 use Rattle.slots.specs.Slots.{is_filled, empty, empty_table, slot_at, with_slot}
 use Rattle.slot_calls.specs.Seen.{slot_as}
 use Rattle.slot_calls.specs.Calls.{loaded}

@@ -13,7 +13,7 @@ use Rattle.laws.proofs.Cases.{pick-cases}
 use Rattle.refusals.specs.Numbers.{done, record_text_bad}
 use Rattle.fields.specs.declared.Asked.{Asked}
 use Rattle.slots.specs.declared.Slot.{Slot}
-use Rattle.slot_calls.specs.declared.Changed.{Changed}
+use Rattle.slot_calls.specs.Answers.{Changed}
 use Rattle.fields.specs.Fields.{asked_of}
 use Rattle.slot_calls.specs.Calls.{loaded}
 use Rattle.record_reader.specs.declared.RecordRead.{RecordRead}

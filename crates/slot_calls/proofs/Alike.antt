@@ -13,7 +13,7 @@ use Rattle.fields.specs.declared.Asked.{Asked}
 use Rattle.fields.specs.declared.Fields.{Fields}
 use Rattle.fields.specs.Fields.{all_in_range, asked_of}
 use Rattle.slots.specs.declared.Slot.{Slot}
-use Rattle.slot_calls.specs.declared.Changed.{Changed}
+use Rattle.slot_calls.specs.Answers.{Changed}
 use Rattle.slots.specs.Slots.{is_empty, is_filled, is_bad, has_bad, nil, empty, slot_at, with_slot}
 use Rattle.slot_calls.specs.Calls.{load_refusal_of, move_refusal_of, slot_refusal_of, clear_refusal_of, load_refusal, move_refusal, slot_refusal, clear_refusal, answered, loaded, moved_fields, moved_slot, moved, cleared, shown}
 use Rattle.slots.proofs.Tables.{filled-not-empty}

@@ -2,7 +2,7 @@
 -- stand for a slot, and no fields for one that is not there. Assumes nothing.
 use mathlib.Core.Bool.{Bool, true, false, ◌&&◌, not, or-true, true≢false}
 use mathlib.Core.List.{List}
-use mathlib.Core.Path.{◌≡◌, refl, sym, ap, ◌∙◌}
+use mathlib.Core.Path.{◌≡◌, refl, ap, ◌∙◌}
 use Prim.Native.Nat.{ℕ, ◌-◌}
 use Rattle.laws.specs.Choice.{pick}
 use Rattle.fields.specs.declared.Asked.{Asked}

@@ -14,7 +14,6 @@ use Rattle.refusals.specs.Numbers.{done, slot_number_bad, slot_empty, target_fil
 use Rattle.fields.specs.Fields.{is_slot_number, is_use}
 use Rattle.fields.proofs.Ranges.{between-low, between-high}
 use Rattle.slots.specs.declared.Slot.{Slot}
-use Rattle.slot_calls.specs.declared.Changed.{Changed}
 use Rattle.slots.specs.Slots.{is_empty, is_filled, has_bad, empty, slot_at, with_slot}
 use Rattle.rights.specs.Rights.{is_asked_use, moved_use, stays_within, may_move}
 use Rattle.slot_calls.specs.Calls.{move_refusal_of, move_refusal, answered, moved_slot, moved}

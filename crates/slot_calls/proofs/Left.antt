@@ -16,7 +16,7 @@ use Rattle.fields.specs.Fields.{is_slot_number, is_algorithm, is_use}
 use Rattle.fields.proofs.Ranges.{between-low, between-high}
 use Rattle.slots.specs.declared.Slot.{Slot}
 use Rattle.slots.specs.Slots.{is_empty, is_filled, is_bad, has_bad, all_zero, nil, empty, empty_table, slot_at, with_slot}
-use Rattle.rights.specs.Rights.{within, moved_use}
+use Rattle.rights.specs.Rights.{moved_use}
 use Rattle.slot_calls.specs.Calls.{move_refusal_of, load_refusal, move_refusal, clear_refusal, answered, loaded, moved_slot, moved, cleared}
 use Rattle.slots.proofs.Tables.{filled-not-empty, filled-else, filled-not-bad, good-at, good-set}
 use Rattle.slot_calls.proofs.Passed.{MovePassed, load-passed, move-passed}

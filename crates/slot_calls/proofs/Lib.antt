@@ -1,3 +1,4 @@
+pub mod Judged
 pub mod Passed
 pub mod Left
 pub mod AskedUse

@@ -1,7 +1,7 @@
 -- What a call puts into its slot gives the answer that document 01 asks, whatever stood for a slot that is not there. Assumes nothing.
 use mathlib.Core.Bool.{Bool, true, false}
 use mathlib.Core.List.{List}
-use mathlib.Core.Path.{◌≡◌, refl, sym, ap, ◌∙◌}
+use mathlib.Core.Path.{◌≡◌, refl, ap, ◌∙◌}
 use Prim.Native.Nat.{ℕ}
 use borrow.Author.Tests.{eqb-true}
 use lib.Dec.{eqb}
@@ -10,8 +10,7 @@ use Rattle.refusals.specs.Numbers.{done}
 use Rattle.fields.specs.declared.Asked.{Asked}
 use Rattle.fields.specs.Fields.{stored_of}
 use Rattle.slots.specs.declared.Slot.{Slot}
-use Rattle.slot_calls.specs.declared.Put.{Put}
-use Rattle.slot_calls.specs.declared.Changed.{Changed}
+use Rattle.slot_calls.specs.Answers.{Changed}
 use Rattle.slots.specs.Slots.{empty, slot_at, with_slot}
 use Rattle.slot_calls.specs.Calls.{load_refusal_of, move_refusal_of, loaded_by, moved_slot, moved_by, cleared_by}
 use Rattle.slot_calls.specs.Seen.{put_to, changed_by, load_put, move_put, emptied_by, clear_put}

@@ -8,8 +8,7 @@ use Rattle.fields.specs.declared.Asked.{Asked}
 use Rattle.fields.specs.declared.Fields.{Fields}
 use Rattle.fields.specs.Fields.{is_slot_number, is_algorithm, out_of_service, rights_refusal, stored_of}
 use Rattle.slots.specs.declared.Slot.{Slot}
-use Rattle.slot_calls.specs.declared.Changed.{Changed}
-use Rattle.slot_calls.specs.declared.Shown.{Shown}
+use Rattle.slot_calls.specs.Answers.{Changed, Shown}
 use Rattle.slots.specs.Slots.{no_fields, is_empty, is_filled, has_bad, empty, slot_at, with_slot}
 use Rattle.rights.specs.Rights.{is_asked_use, moved_use, may_move}
 

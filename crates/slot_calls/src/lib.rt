@@ -1,137 +1,91 @@
 // Load, move, clear and read: their refusals, in order (document 01, "Slots and rights").
 #![tactic(auto)]
 
-ghost use Rattle.std.specs.Prelude.{◌≡◌, eqb};
+ghost use Rattle.std.specs.Prelude.{◌≡◌, eqb, not, ◌||◌};
 ghost use Rattle.refusals.specs.Numbers.{done};
+ghost use Rattle.refusals.specs.Refused.{number_of};
+ghost use Rattle.fields.specs.Fields.{is_slot_number};
 ghost use Rattle.slots.specs.Slots.{keyless};
 ghost use Rattle.slot_calls.specs.Calls.{load_refusal_of, move_refusal_of, slot_refusal_of, clear_refusal_of};
 ghost use Rattle.slot_calls.specs.Seen.{key_slot};
 
 use fields::{Asked, Fields};
-use refusals::refuse;
-use slots::Slot;
+use refusals::Refusal;
 
 // The number of no slot.
 pub const NO_SLOT: u64 = 0;
 
-// The answer to a call that changes the table.
-#[derive(Clone, Copy)]
-pub struct Changed {
-    pub refusal: u8,
-    pub table: [Slot; 32],
-}
-
-// The answer to a read.
-#[derive(Clone, Copy)]
-pub struct Shown {
-    pub refusal: u8,
+// What a read finds.
+#[derive(Clone, Copy, Debug, PartialEq, Eq)]
+pub struct Found {
     pub number: u64,
     pub fields: Fields,
-}
-
-// The answer to a call that changes one slot: where it is not refused, the slot becomes this one.
-#[derive(Clone, Copy)]
-pub struct Put {
-    pub refusal: u8,
-    pub slot: Slot,
 }
 
 // Each call is judged by whether its table is bad and by the fields of its slots. No key is looked at: in a table without a bad slot,
 // a slot that shows nothing is empty.
 
 // Refusals 16, 7, 1, 21, 10, 11, 20, 9, in this order.
-pub fn load_refusal(bad: bool, f: Fields, number: u64, asked: Asked) -> u8
-    ensures { result ≡ load_refusal_of bad (keyless f) number asked }
+#[tactic(auto, unfolding(crate::specs::Calls::load_refusal_of))]
+pub fn load_refusal(bad: bool, f: Fields, number: u64, asked: Asked) -> Result<(), Refusal>
+    ensures { number_of result ≡ load_refusal_of bad (keyless f) number asked }
 {
-    let out_of_service = fields::is_out_of_service(asked.algorithm);
-    let rights = fields::rights_refusal(asked);
-    refuse(
-        bad,
-        refusals::TABLE,
-        refuse(
-            !fields::is_slot_number(number),
-            refusals::SLOT_NUMBER,
-            refuse(
-                !fields::is_algorithm(asked.algorithm),
-                refusals::ALGORITHM,
-                refuse(
-                    out_of_service,
-                    refusals::OUT_OF_SERVICE,
-                    refuse(
-                        rights != refusals::DONE,
-                        rights,
-                        refuse(
-                            slots::are_filled(f),
-                            refusals::TARGET_FILLED,
-                            refusals::DONE,
-                        ),
-                    ),
-                ),
-            ),
-        ),
-    )
+    Refusal::TableBad.when(bad)?;
+    Refusal::SlotNumberBad.when(!fields::is_slot_number(number))?;
+    Refusal::AlgorithmUnknown.when(!fields::is_algorithm(asked.algorithm))?;
+    Refusal::AlgorithmOutOfService.when(fields::is_out_of_service(asked.algorithm))?;
+    fields::rights_refusal(asked)?;
+    Refusal::TargetFilled.when(slots::are_filled(f))
+}
+
+// Whether either number is no slot's.
+fn either_is_none(from: u64, to: u64) -> bool
+    ensures { result ≡ not (is_slot_number from) || not (is_slot_number to) }
+{
+    !fields::is_slot_number(from) || !fields::is_slot_number(to)
 }
 
 // Refusals 16, 7 for either number, 8, 9, 10, 14, in this order.
-pub fn move_refusal(bad: bool, f: Fields, target: Fields, from: u64, to: u64, asked: u64) -> u8
-    ensures { result ≡ move_refusal_of bad (keyless f) (keyless target) from to asked }
+#[tactic(auto, using(crate::proofs::Judged::judging), unfolding(crate::specs::Calls::move_refusal_of))]
+pub fn move_refusal(
+    bad: bool,
+    f: Fields,
+    target: Fields,
+    from: u64,
+    to: u64,
+    asked: u64,
+) -> Result<(), Refusal>
+    ensures { number_of result ≡ move_refusal_of bad (keyless f) (keyless target) from to asked }
 {
-    refuse(
-        bad,
-        refusals::TABLE,
-        refuse(
-            !fields::is_slot_number(from),
-            refusals::SLOT_NUMBER,
-            refuse(
-                !fields::is_slot_number(to),
-                refusals::SLOT_NUMBER,
-                refuse(
-                    slots::is_no_fields(f),
-                    refusals::SLOT_EMPTY,
-                    refuse(
-                        slots::are_filled(target),
-                        refusals::TARGET_FILLED,
-                        refuse(
-                            !rights::is_asked_use(asked),
-                            refusals::CODE,
-                            refuse(
-                                !rights::may_move(f.usage, asked),
-                                refusals::USE_WIDER,
-                                refusals::DONE,
-                            ),
-                        ),
-                    ),
-                ),
-            ),
-        ),
-    )
+    Refusal::TableBad.when(bad)?;
+    Refusal::SlotNumberBad.when(either_is_none(from, to))?;
+    Refusal::SlotEmpty.when(slots::is_no_fields(f))?;
+    Refusal::TargetFilled.when(slots::are_filled(target))?;
+    Refusal::CodeUnknown.when(!rights::is_asked_use(asked))?;
+    Refusal::UseNotWithin.when(!rights::may_move(f.usage, asked))
 }
 
 // Refusals 7, 8, in this order.
-pub fn slot_refusal(f: Fields, number: u64) -> u8
-    ensures { result ≡ slot_refusal_of (keyless f) number }
+#[tactic(auto, using(crate::proofs::Judged::judging), unfolding(crate::specs::Calls::slot_refusal_of))]
+pub fn slot_refusal(f: Fields, number: u64) -> Result<(), Refusal>
+    ensures { number_of result ≡ slot_refusal_of (keyless f) number }
 {
-    refuse(
-        !fields::is_slot_number(number),
-        refusals::SLOT_NUMBER,
-        refuse(slots::is_no_fields(f), refusals::SLOT_EMPTY, refusals::DONE),
-    )
+    Refusal::SlotNumberBad.when(!fields::is_slot_number(number))?;
+    Refusal::SlotEmpty.when(slots::is_no_fields(f))
 }
 
 // Refusals 16, 7, 8, in this order.
-pub fn clear_refusal(bad: bool, f: Fields, number: u64) -> u8
-    ensures { result ≡ clear_refusal_of bad (keyless f) number }
+#[tactic(auto, unfolding(crate::specs::Calls::clear_refusal_of))]
+pub fn clear_refusal(bad: bool, f: Fields, number: u64) -> Result<(), Refusal>
+    ensures { number_of result ≡ clear_refusal_of bad (keyless f) number }
 {
-    refuse(bad, refusals::TABLE, slot_refusal(f, number))
+    Refusal::TableBad.when(bad)?;
+    slot_refusal(f, number)
 }
 
-// Whose key a call with this refusal reads: the slot's of its number, and no slot's after a refusal.
-pub fn key_slot(refusal: u8, number: u64) -> u64
-    ensures { result ≡ key_slot (eqb refusal done) number }
+// Whose key a call so judged reads: the slot's of its number, and no slot's after a refusal.
+pub fn key_slot(judged: Result<(), Refusal>, number: u64) -> u64
+    ensures { result ≡ key_slot (eqb (number_of judged) done) number }
 {
-    if refusal == refusals::DONE {
-        number
-    } else {
-        NO_SLOT
-    }
+    if judged.is_ok() { number } else { NO_SLOT }
 }

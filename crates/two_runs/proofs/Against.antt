@@ -7,8 +7,7 @@ use lib.ListN.{get_or, replicate}
 use Rattle.fields.specs.declared.Asked.{Asked}
 use Rattle.fields.specs.Fields.{stored_of}
 use Rattle.slots.specs.declared.Slot.{Slot}
-use Rattle.slot_calls.specs.declared.Changed.{Changed}
-use Rattle.slot_calls.specs.declared.Shown.{Shown}
+use Rattle.slot_calls.specs.Answers.{Changed, Shown}
 use Rattle.slots.specs.Slots.{empty, slot_at, with_slot}
 use Rattle.slot_calls.specs.Calls.{move_refusal, answered, loaded, moved, cleared, shown}
 use Rattle.traffic.specs.Traffic.{traffic_refusal, traffic_blocks, trafficked}

@@ -8,7 +8,7 @@ use lib.Dec.{eqb}
 use Rattle.refusals.specs.Numbers.{done, slot_empty, refuse}
 use Rattle.fields.specs.declared.Asked.{Asked}
 use Rattle.slots.specs.declared.Slot.{Slot}
-use Rattle.slot_calls.specs.declared.Changed.{Changed}
+use Rattle.slot_calls.specs.Answers.{Changed}
 use Rattle.slots.specs.Slots.{all_zero, is_empty, is_filled, is_bad, has_bad, empty_table}
 use Rattle.slot_calls.specs.Calls.{load_refusal_of, load_refusal, answered, loaded}
 use Rattle.two_runs.specs.Calls.{TwinCalls, load, end, more, other_key}

@@ -2,8 +2,7 @@
 use Rattle.std.specs.Prelude.{List, ℕ}
 use Rattle.fields.specs.declared.Asked.{Asked}
 use Rattle.slots.specs.declared.Slot.{Slot}
-use Rattle.slot_calls.specs.declared.Changed.{Changed}
-use Rattle.slot_calls.specs.declared.Shown.{Shown}
+use Rattle.slot_calls.specs.Answers.{Changed, Shown}
 use Rattle.whole.specs.declared.Pdu.{Pdu}
 use Rattle.two_runs.specs.Calls.{Use, Work, span, pdu, Call, load, move, clear, read, traffic}
 use Rattle.two_runs.specs.Step.{Step, changing, reading, ciphering}

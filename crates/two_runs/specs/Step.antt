@@ -2,8 +2,7 @@
 use Rattle.std.specs.Prelude.{List, [], ℕ}
 use Rattle.fields.specs.declared.Fields.{Fields}
 use Rattle.slots.specs.declared.Slot.{Slot}
-use Rattle.slot_calls.specs.declared.Changed.{Changed}
-use Rattle.slot_calls.specs.declared.Shown.{Shown}
+use Rattle.slot_calls.specs.Answers.{Changed, Shown}
 use Rattle.slots.specs.Slots.{no_fields}
 
 -- the refusal; the block count; a record read, its number and fields; the buffer afterwards. What a call does not give is 0, or no byte

@@ -1,6 +1,6 @@
 -- `table_calls::load`: by what is seen of the table. Assumes nothing.
 use mathlib.Core.Path.{sym, ap, ◌∙◌}
-use Rattle.slot_calls.specs.declared.Put.{Put}
+use Rattle.slot_calls.specs.Answers.{Put}
 use Rattle.slots.specs.Slots.{keyless}
 use Rattle.slot_calls.specs.Seen.{load_put, changed_by}
 use Rattle.slot_calls.proofs.AsSeen.{slot-there}

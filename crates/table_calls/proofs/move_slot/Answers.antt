@@ -6,7 +6,7 @@ use Prim.Native.Nat.{ℕ}
 use Rattle.laws.specs.Choice.{pick}
 use Rattle.refusals.specs.Numbers.{done}
 use Rattle.slots.specs.declared.Slot.{Slot}
-use Rattle.slot_calls.specs.declared.Put.{Put}
+use Rattle.slot_calls.specs.Answers.{Put}
 use Rattle.slots.specs.Slots.{has_bad, empty, keyless, slot_at}
 use Rattle.rights.specs.Rights.{stays_within}
 use Rattle.slot_calls.specs.Calls.{move_refusal_of}
