@@ -6,11 +6,14 @@ use Prim.Native.Nat.{ℕ}
 use borrow.Author.Tests.{eqb-true}
 use lib.Dec.{eqb}
 use Rattle.laws.specs.Choice.{pick}
+use Rattle.std.specs.Prelude.{Err}
+use Rattle.refusals.specs.declared.Refusal.{Refusal}
 use Rattle.refusals.specs.Numbers.{done}
+use Rattle.refusals.proofs.Judged.{refused-not_done}
 use Rattle.fields.specs.declared.Asked.{Asked}
 use Rattle.fields.specs.Fields.{stored_of}
 use Rattle.slots.specs.declared.Slot.{Slot}
-use Rattle.slot_calls.specs.Answers.{Changed}
+use Rattle.slot_calls.specs.Answers.{Changed, changed_of, put_of}
 use Rattle.slots.specs.Slots.{empty, slot_at, with_slot}
 use Rattle.slot_calls.specs.Calls.{load_refusal_of, move_refusal_of, loaded_by, moved_slot, moved_by, cleared_by}
 use Rattle.slot_calls.specs.Seen.{put_to, changed_by, load_put, move_put, emptied_by, clear_put}
@@ -54,3 +57,11 @@ module _ (bad : Bool) (table : List Slot) (from to asked : ℕ) (f g : Slot) (sa
       go : (u : Bool) → eqb seen₁ done ≡ u → both u ≡ pick u (with_slot (with_slot table to (moved_slot (slot_at table from) asked)) from empty) table
       go true e = ap (λ (x : Slot). with_slot (with_slot table to (moved_slot x asked)) from empty) (carried (seen ∙ eqb-true seen₁ done e))
       go false e = refl
+
+-- a refused call changes nothing
+pub refused-changes : (before : List Slot) (number : ℕ) (refusal : Refusal) → changed_of before (Err refusal) ≡ changed_by before number (put_of (Err refusal))
+refused-changes before number refusal = rw refused-not_done
+
+pub refused-moves : (before : List Slot) (from to : ℕ) (refusal : Refusal)
+    → let p = put_of (Err refusal) in changed_of before (Err refusal) ≡ changed_by (put_to before to p) from (emptied_by p)
+refused-moves before from to refusal = rw refused-not_done

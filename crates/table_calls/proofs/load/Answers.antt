@@ -1,20 +1,36 @@
 -- `table_calls::load`: by what is seen of the table. Assumes nothing.
-use mathlib.Core.Path.{sym, ap, ◌∙◌}
+use mathlib.Core.Bool.{Bool}
+use mathlib.Core.List.{List}
+use mathlib.Core.Path.{◌≡◌, sym, ap, ◌∙◌}
+use Prim.Native.Nat.{ℕ}
+use Rattle.std.proofs.lemmas.Result.{err_from_is_err_and}
+use Rattle.fields.specs.declared.Asked.{Asked}
+use Rattle.fields.specs.declared.Fields.{Fields}
+use Rattle.slots.specs.declared.Slot.{Slot}
+use Rattle.slots.specs.Slots.{has_bad, keyless}
 use Rattle.slot_calls.specs.Answers.{Put}
-use Rattle.slots.specs.Slots.{keyless}
-use Rattle.slot_calls.specs.Seen.{load_put, changed_by}
+use Rattle.slot_calls.specs.Calls.{loaded}
+use Rattle.slot_calls.specs.Seen.{load_put, changed_by, slot_as}
 use Rattle.slot_calls.proofs.AsSeen.{slot-there}
-use Rattle.slot_calls.proofs.Puts.{load-put}
+use Rattle.slot_calls.proofs.Puts.{load-put, refused-changes}
 use Rattle.slot_calls.proofs.Passed.{load-passed-of}
 use Rattle.table_calls.proofs.load.Goals as goal
 
-pub returns : goal.returns
-returns c =
-    let a = c.args in
-    c.put_to.ensures
-    ∙ ap (changed_by a.table a.number)
-    (c.load_of-put.ensures ∙ (λ i. load_put (c.table_is_bad.ensures i) (keyless (c.fields_or_none.ensures i)) a.number a.asked a.key))
-    ∙ load-put _ a.table a.number _ (slot-there a.table a.number) a.asked a.key
+-- the slot's put, by what is seen, gives the answer
+answers : (table : List Slot) (number : ℕ) (bad : Bool) (f : Fields) (a : Asked) (key : List ℕ) (put : Put) → bad ≡ has_bad table → f ≡ (slot_as table number).fields
+    → put ≡ load_put bad (keyless f) number a key → changed_by table number put ≡ loaded table number a key
+answers table number bad f a key put b g p =
+    ap (changed_by table number) (p ∙ (λ i. load_put (b i) (keyless (g i)) number a key))
+    ∙ load-put _ table number _ (slot-there table number) a key
 
-pub put_to-requires : goal.put_to-requires
-put_to-requires c e = (load-passed-of _ _ _ _ (sym (ap (λ (p : Put). p.refusal) c.load_of-put.ensures) ∙ e)).numbered
+pub returns-in_err-slot : goal.returns-in_err-slot
+returns-in_err-slot c =
+    let refused = err_from_is_err_and c.from_residual.result c.from_residual.ensures.1 in
+    rw (refused.1, refused.2)
+    (refused-changes c.args.table c.args.number _ ∙ answers _ _ _ _ _ _ _ c.table_is_bad-bad.ensures c.fields_or_none.ensures c.in_err-slot.ensures)
+
+pub with_slot-requires : goal.with_slot-requires
+with_slot-requires c = (load-passed-of _ _ _ _ (ap (λ (p : Put). p.refusal) (sym c.in_ok-slot.ensures))).numbered
+
+pub returns : goal.returns
+returns c = rw c.with_slot.ensures (answers _ _ _ _ _ _ _ c.table_is_bad-bad.ensures c.fields_or_none.ensures c.in_ok-slot.ensures)

@@ -9,5 +9,5 @@ pub returns : goal.returns
 returns c =
     let a = c.args in
     c.read_of.ensures
-    ∙ (λ i. shown_of (c.table_is_bad.ensures i) (keyless (c.fields_or_none.ensures i)) a.number)
+    ∙ (λ i. shown_of (c.table_is_bad-bad.ensures i) (keyless (c.fields_or_none.ensures i)) a.number)
     ∙ shown-seen _ a.number _ _ (slot-there a.table a.number)
