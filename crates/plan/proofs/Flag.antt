@@ -1,15 +1,14 @@
 -- A plan looks at the flag in state 1 of kind 2 alone. Assumes nothing.
-use mathlib.Core.Bool.{Bool, true, ◌||◌}
+use mathlib.Core.Bool.{true}
 use mathlib.Core.Path.{◌≡◌, refl, sym, ◌∙◌}
 use mathlib.Core.Logic.{⊎_elim}
 use Prim.Native.Nat.{ℕ, zero, suc, ◌<◌, ◌≤◌}
 use native.Mathlib.Omega.{arith}
-use lib.Dec.{eqb, ltb}
+use lib.Dec.{eqb}
 use borrow.Author.Tests.{eq-eqb, ne_eqb, le-ltb, lt-ltb}
 use Rattle.laws.specs.Choice.{pick}
 use Rattle.laws.proofs.Cases.{eq-or-ne}
 use Rattle.refusals.specs.Numbers.{done, pdu_code_unknown, pdu_parts_dont_fit, refuse}
-use Rattle.plan.specs.declared.Plan.{Plan}
 use Rattle.plan.specs.Plan.{codes_unknown, parts_dont_fit, plan_refusal, refused_plan, planned_pieces, plan_of}
 
 above : (k : ℕ) → (k ≡ 0 → ⊥) → (k ≡ 1 → ⊥) → (k ≡ 2 → ⊥) → (k ≡ 3 → ⊥) → 3 < k

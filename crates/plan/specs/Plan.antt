@@ -1,11 +1,19 @@
 -- Which bits of a direct mode PDU are ciphered, and by which keystream bits: document 01, "Plan of a direct mode PDU"; document 002, clause 6.3.2.1.
 -- l is the PDU's length L in bits, a is where its destination address starts and s where its DM-SDU starts, counted from 0.
 -- Assumes nothing: these are definitions.
-use Rattle.std.specs.Prelude.{Bool, false, ◌&&◌, ◌||◌, ℕ, ◌+◌, ◌-◌, ltb, eqb}
+use Rattle.std.specs.Prelude.{Bool, false, ◌&&◌, ◌||◌, ℕ, ◌+◌, ◌-◌, ltb, eqb, Result, Ok, Err}
 use Rattle.laws.specs.Choice.{pick}
 use Rattle.refusals.specs.Numbers.{done, pdu_code_unknown, pdu_parts_dont_fit, refuse}
+use Rattle.refusals.specs.Refused.{number}
+use Rattle.refusals.specs.declared.Refusal.{Refusal}
 use Rattle.plan.specs.declared.Piece.{Piece}
-use Rattle.plan.specs.declared.Plan.{Plan}
+use Rattle.plan.specs.declared.Pieces.{Pieces}
+
+-- a plan as its callers see it: the refusal's number, 0 where there is none, and the pieces
+pub record Plan : Type 0 where
+  pub refusal : ℕ
+  pub first : Piece
+  pub second : Piece
 
 -- kinds 1 and 3; kind 2, DMAC-SYNC on SCH/H, is the one between
 abbrev pub dmac_data : ℕ
@@ -84,6 +92,11 @@ with_pieces first second = record { refusal = done; first = first; second = seco
 
 abbrev pub refused_plan : ℕ → Plan
 refused_plan number = record { refusal = number; first = no_piece; second = no_piece }
+
+-- what was planned, as a plan: the pieces, or the refusal
+abbrev pub plan_as : Result Pieces Refusal → Plan
+plan_as (Ok pieces) = with_pieces pieces.first pieces.second
+plan_as (Err refusal) = refused_plan (number refusal)
 
 -- the pieces, case by case
 unfoldable pub planned_pieces : ℕ → ℕ → ℕ → ℕ → ℕ → ℕ → Plan

@@ -18,3 +18,6 @@ refused-not_done refusal = ne_eqb (number refusal) done (λ z. omega (arith, num
 pub ok-by_number : {A : Type 0} (judged : Result A Refusal) → is_ok judged ≡ eqb (number_of judged) done
 ok-by_number (Ok _) = refl
 ok-by_number (Err refusal) = sym (refused-not_done refusal)
+
+-- what a refusal that was given says of a pick by its number
+pub ruleset judged_steps = (number-above_0)
