@@ -5,7 +5,9 @@ use Prim.Native.Nat.{ℕ}
 use borrow.Author.Tests.{eqb-true, not-false}
 use lib.Dec.{eqb, lit<}
 use Rattle.laws.proofs.Cases.{unpicked}
+use Rattle.refusals.proofs.Judged.{number_some}
 use Rattle.fields.specs.Fields.{is_algorithm}
+use Rattle.block_counts.proofs.Blocks.{used_pos}
 use Rattle.bench.specs.Bench.{keyed_refusal}
 use Rattle.ciphering.proofs.Passed.{SpanPassed, span-passed}
 
@@ -25,3 +27,6 @@ keyed-passed algorithm key iv size start n skip e =
       iv-10 = eqb-true iv 10 (not-false (eqb iv 10) three.0);
       span = span-passed size start n skip three.1;
     }
+
+-- what a call with its own key needs to be shown, once it is accepted or refused
+pub ruleset keyed_steps = (keyed-passed, number_some, used_pos)
