@@ -1,27 +1,29 @@
 // The call: keystream into a buffer, from a bit of it on.
 ghost use Rattle.std.specs.Prelude.{◌≡◌, ◌+◌, ◌-◌, ◌*◌, ◌<◌, ◌≤◌, min, length};
+ghost use Rattle.refusals.specs.Refused.{number_of};
 ghost use Rattle.span.specs.Span.{xored, written, stream_bit};
 ghost use Rattle.block_counts.specs.Counts.{blocks_used};
 ghost use Rattle.tea.specs.Keystream.{block_of};
-ghost use Rattle.plain.specs.Given.{given_refusal, given_buffer, given_blocks};
+ghost use Rattle.plain.specs.Given.{given_refusal, given_buffer, given_blocks, count_of};
 
+use ciphering::lent::bytes_of;
 use plain_blocks::blocks::block;
 use plain_blocks::mode::mode_of_lent;
+use refusals::Refusal;
 use tea::mode::Mode;
 
 // Whether keystream may be had from bit `skip` on: the bench call's tests, with the skip.
-pub fn refusal_of(algorithm: u64, key: &[u8], iv: &[u8], buf: &[u8], n: usize, skip: usize) -> u8
-    ensures { result ≡ given_refusal algorithm key.now iv.now buf.now n skip }
+pub fn refusal_of(
+    algorithm: u64,
+    key: &[u8],
+    iv: &[u8],
+    buf: &[u8],
+    n: usize,
+    skip: usize,
+) -> Result<(), Refusal>
+    ensures { number_of result ≡ given_refusal algorithm key.now iv.now buf.now n skip }
 {
     bench::keyed_refusal(algorithm, key.len(), iv.len(), buf.len(), 0, n, skip)
-}
-
-// How many of `left` bits a block still has from its bit `from` on.
-fn piece(from: usize, left: usize) -> usize
-    requires { from < 256 }
-    ensures { result ≡ min left (256 - from) }
-{
-    if left < 256 - from { left } else { 256 - from }
 }
 
 // Clauses 5.4, 6.4, 7.4: KSS[256 r + 8 s + t] is bit t of byte s of block r. Bit i of the buffer becomes itself xor KSS[skip + i], for i below n. Answers
@@ -35,7 +37,7 @@ fn xor_blocks(buf: &mut [u8], n: usize, skip: usize, mode: Mode) -> usize
     while done < n {
         let at = skip + done;
         let from = at % 256;
-        let p = piece(from, n - done);
+        let p = (n - done).min(256 - from);
         let b = block(mode, at / 256);
         made += 1;
         span::xor_block(buf, b, done, from, p);
@@ -45,6 +47,7 @@ fn xor_blocks(buf: &mut [u8], n: usize, skip: usize, mode: Mode) -> usize
 }
 
 // The bits are cleared first, and xored then: they become the keystream's.
+#[tactic(auto, using(bench::proofs::Cleared::cleared_steps))]
 fn write_blocks(buf: &mut [u8], n: usize, skip: usize, mode: Mode) -> usize
     requires { (length buf.old ≤ 8192) × (n ≤ 8 * length buf.old) × (skip + n ≤ 8288) }
     ensures { (buf.new ≡ written buf.old (stream_bit (block_of mode)) 0 skip n) × (result ≡ blocks_used skip n) }
@@ -53,7 +56,26 @@ fn write_blocks(buf: &mut [u8], n: usize, skip: usize, mode: Mode) -> usize
     xor_blocks(buf, n, skip, mode)
 }
 
-// Bit i of the buffer becomes keystream bit skip + i, for i below n; its later bits stay. Reports how many blocks were made.
+// Bit i of the buffer becomes keystream bit skip + i, for i below n; its later bits stay. Answers with the blocks that were made.
+#[tactic(auto, using(bench::proofs::Passed::keyed_steps), unfolding(crate::specs::Given::given_buffer, crate::specs::Given::given_blocks))]
+fn give(
+    algorithm: u64,
+    key: &[u8],
+    iv: &[u8],
+    buf: &mut [u8],
+    n: usize,
+    skip: usize,
+) -> Result<usize, Refusal>
+    ensures { (number_of result ≡ given_refusal algorithm key.now iv.now buf.old n skip)
+        × (buf.new ≡ given_buffer algorithm key.now iv.now buf.old n skip)
+        × (count_of result ≡ given_blocks algorithm key.now iv.now buf.old n skip) }
+{
+    refusal_of(algorithm, key, iv, buf, n, skip)?;
+    let mode = mode_of_lent(algorithm, key, bytes_of(iv));
+    Ok(write_blocks(buf, n, skip, mode))
+}
+
+// The same for C: 0 or the refusal's number, and the blocks, 0 where the call is refused.
 #[unsafe(no_mangle)]
 pub extern "C" fn card_plain(
     algorithm: u64,
@@ -68,12 +90,14 @@ pub extern "C" fn card_plain(
         × (buf.new ≡ given_buffer algorithm key.now iv.now buf.old n skip)
         × (blocks.new ≡ given_blocks algorithm key.now iv.now buf.old n skip) }
 {
-    *blocks = 0;
-    let refusal = refusal_of(algorithm, key, iv, &buf[..], n, skip);
-    if refusal != refusals::DONE {
-        return refusal;
+    match give(algorithm, key, iv, buf, n, skip) {
+        Ok(made) => {
+            *blocks = made;
+            0
+        }
+        Err(refusal) => {
+            *blocks = 0;
+            refusal.number()
+        }
     }
-    let mode = mode_of_lent(algorithm, key, ciphering::lent::iv_of(iv));
-    *blocks = write_blocks(buf, n, skip, mode);
-    refusals::DONE
 }

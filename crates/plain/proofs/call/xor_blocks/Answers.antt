@@ -22,8 +22,8 @@ pub loop-done-preserved : goal.loop-done-preserved
 loop-done-preserved c =
     let a = c.args in
     let done = c.loop-done.done in
-    let p = c.piece-p.result in
-    let piece = c.piece-p.ensures in
+    let p = c.min-p.result in
+    let piece = c.min-p.ensures in
     let inv = c.loop-done.invariant in
     let h : (a.skip + done) % 256 + p ≤ 256 = omega (arith, piece) in
     let some : 0 < p = omega (arith, piece) in (
