@@ -1,15 +1,15 @@
 -- What writing refuses, and what it answers. Assumes nothing.
-use mathlib.Core.Path.{◌≡◌, refl, sym, ap, ◌∙◌}
+use Rattle.std.specs.Prelude.{Ok}
+use mathlib.Core.Path.{◌≡◌, refl, ap, ◌∙◌}
 use mathlib.Core.List.{List, ◌++◌}
-use mathlib.Core.Bool.{Bool, true, false, not, ◌&&◌}
-use Prim.Native.Nat.{ℕ, ◌≤◌}
+use mathlib.Core.Bool.{true, not, ◌&&◌}
+use Prim.Native.Nat.{ℕ, ◌+◌, ◌≤◌}
 use native.Mathlib.Nat.{zero-add}
 use native.Mathlib.Omega.{arith}
-use lib.Dec.{eqb, ltb, lit<}
+use lib.Dec.{ltb, lit<}
 use lib.ListN.{length, drop}
 use lib.Seq.{sets-eq}
-use borrow.Author.Tests.{le-ltb, le-leb, ltb-false, leb-true, eqb-true, eq-eqb, ne_eqb, not-false}
-use Rattle.laws.specs.Choice.{pick}
+use borrow.Author.Tests.{le-ltb, le-leb, ltb-false, leb-true, eqb-true, not-false}
 use Rattle.laws.proofs.Cases.{and_left, and_right, unpicked, unpicked-own}
 use Rattle.refusals.specs.Numbers.{done, slot_number_bad, algorithm_unknown, code_unknown, side_or_place_bad, network_bad, record_too_long}
 use Rattle.fields.specs.Fields.{is_slot_number, is_algorithm, is_use, is_side, is_place, is_mcc, is_mnc, rights_refusal, stored_of, asked_of}
@@ -17,7 +17,10 @@ use Rattle.fields.specs.declared.Asked.{Asked}
 use Rattle.fields.specs.declared.Fields.{Fields}
 use Rattle.record_text.specs.Text.{record_text, Good}
 use Rattle.writing.specs.Writing.{Room, Put, at_front}
-use Rattle.record_writer.specs.Written.{write_refusal, record_written, buffer_written}
+use Rattle.refusals.proofs.Judged.{number_some}
+use Rattle.writing.specs.Text.{digits}
+use Rattle.record_text.proofs.Lengths.{text-length}
+use Rattle.record_writer.specs.Written.{write_refusal, record_written_as, record_written, buffer_written}
 
 module _ (number : ℕ) (asked : Asked) (key b : List ℕ) where
   pub record Accepted : Type 0 where
@@ -40,24 +43,20 @@ module _ (number : ℕ) (asked : Asked) (key b : List ℕ) where
         room = ltb-false (length b) _ l.0;
       }
 
-  -- the answers, where r is the refusal
+  -- the answers of what is not refused
 
-  module _ {r : ℕ} (e : r ≡ write_refusal number asked key (length b)) where
-    pub refused : (r ≡ done → ⊥) → (record { refusal = r; length = 0 } ≡ record_written number asked key b) × (b ≡ buffer_written number asked key b)
+  module _ (e : write_refusal number asked key (length b) ≡ done) where
+    pub room : Room b 0 (record_text number (stored_of asked) key)
+    room = record { fits = omega (arith, (accepted e).room) }
+
+    pub written : {b' : List ℕ} {n : ℕ} → Put b 0 (record_text number (stored_of asked) key) b' n
+        → (record_written_as (Ok n) ≡ record_written number asked key b) × (b' ≡ buffer_written number asked key b)
     unfolding record_written buffer_written
-    refused h = rw (← e, ne_eqb r done h) (refl, refl)
-
-    pub room : r ≡ done → Room b 0 (record_text number (stored_of asked) key)
-    room z = record { fits = omega (arith, (accepted (sym e ∙ z)).room) }
-
-    pub written : r ≡ done → {b' : List ℕ} {n : ℕ} → Put b 0 (record_text number (stored_of asked) key) b' n
-        → (record { refusal = r; length = n } ≡ record_written number asked key b) × (b' ≡ buffer_written number asked key b)
-    unfolding record_written buffer_written
-    written z {b'} {n} p =
+    written {b'} {n} p =
         let t = record_text number (stored_of asked) key in
-        rw (← e, eq-eqb r done z) (
-          λ i. record { refusal = r; length = (p.ends ∙ zero-add (length t)) i },
-          p.holds ∙ sets-eq t b 0 (room z).fits ∙ ap (λ (k : ℕ). t ++ drop k b) (zero-add (length t)),
+        rw e (
+          λ i. record_written_as (Ok ((p.ends ∙ zero-add (length t)) i)),
+          p.holds ∙ sets-eq t b 0 room.fits ∙ ap (λ (k : ℕ). t ++ drop k b) (zero-add (length t)),
         )
 
 -- a good record is refused only for want of room
@@ -106,11 +105,10 @@ right a e =
       mnc = leb-true a.mnc 16383 (and_right (is_mcc a.mcc) _ codes);
     }
 
--- what comes after the rights counts only where they have no refusal
-pub after-rights : (rights room x y : ℕ) → (rights ≡ done → x ≡ y)
-    → pick (not (eqb rights done)) rights (pick (ltb room x) record_too_long done) ≡ pick (not (eqb rights done)) rights (pick (ltb room y) record_too_long done)
-after-rights rights room x y h = go (eqb rights done) refl
-  where
-    go : (t : Bool) → eqb rights done ≡ t → pick (not t) rights (pick (ltb room x) record_too_long done) ≡ pick (not t) rights (pick (ltb room y) record_too_long done)
-    go true e = ap (λ (n : ℕ). pick (ltb room n) record_too_long done) (h (eqb-true rights done e))
-    go false e = refl
+-- the length of a text whose rights are not refused
+pub written-length : (number : ℕ) (a : Asked) (key : List ℕ) → rights_refusal a ≡ done → length key ≡ 24
+    → length (record_text number (stored_of a) key)
+    ≡ 119 + (length (digits number) + (length (digits a.version) + (length (digits a.place) + (length (digits a.mcc) + length (digits a.mnc)))))
+written-length number a key e size = text-length number (stored_of a) key (right a e).side size
+
+pub ruleset write_steps = (written-length, number_some)

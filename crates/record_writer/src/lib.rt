@@ -2,15 +2,16 @@
 #![tactic(auto)]
 
 ghost use Rattle.std.specs.Prelude.{true, List, ◌≡◌, ℕ, ◌+◌, length};
+ghost use Rattle.refusals.specs.Refused.{number_of};
 ghost use Rattle.fields.specs.Fields.{stored_of};
 ghost use Rattle.writing.specs.Text.{digits, hex_text, line_text};
 ghost use Rattle.record_text.specs.Text.{last_lines, record_text};
 ghost use Rattle.writing.specs.Writing.{Room, Put};
-ghost use Rattle.record_writer.specs.Written.{write_refusal, record_written, buffer_written};
+ghost use Rattle.record_writer.specs.Written.{write_refusal, record_written_as, record_written, buffer_written};
 
 use fields::{Asked, is_algorithm, is_slot_number, rights_refusal};
 use record_text::use_word;
-use refusals::refuse;
+use refusals::Refusal;
 use writing::{digit_count, put_bytes, put_hex, put_line, put_word_line};
 
 // The line of a key.
@@ -23,42 +24,26 @@ fn put_key(buffer: &mut [u8], at: usize, key: [u8; 24]) -> usize
     put_bytes(buffer, end, b"\n")
 }
 
-// Refusal and length of the text. A refusal has length 0.
-#[derive(Clone, Copy)]
-pub struct RecordWritten {
-    pub refusal: u8,
-    pub length: usize,
-}
-
 // The length of a text: what all have, and five numbers whose digits vary.
-fn text_length(number: u64, version: u64, place: u64, mcc: u64, mnc: u64) -> usize
+#[tactic(auto, using(crate::proofs::Lengths::digit_steps))]
+fn text_length(number: u64, asked: Asked) -> usize
     ensures { result
-        ≡ 119 + (length (digits number) + (length (digits version) + (length (digits place) + (length (digits mcc) + length (digits mnc))))) }
+        ≡ 119 + (length (digits number) + (length (digits asked.version) + (length (digits asked.place) + (length (digits asked.mcc) + length (digits asked.mnc))))) }
 {
-    let codes = digit_count(mcc) + digit_count(mnc);
-    119 + (digit_count(number) + (digit_count(version) + (digit_count(place) + codes)))
+    let codes = digit_count(asked.mcc) + digit_count(asked.mnc);
+    let place = digit_count(asked.place);
+    119 + (digit_count(number) + (digit_count(asked.version as u64) + (place + codes)))
 }
 
 // Refusals 7, 1, 10, 11, 20, 17, in this order. The key takes no part.
-fn write_refusal(number: u64, asked: Asked, room: usize) -> u8
-    ensures { (key : List ℕ) → length key ≡ 24 → result ≡ write_refusal number asked key room }
+#[tactic(auto, using(crate::proofs::Refusals::write_steps), unfolding(crate::specs::Written::write_refusal))]
+fn write_refusal(number: u64, asked: Asked, room: usize) -> Result<(), Refusal>
+    ensures { (key : List ℕ) → length key ≡ 24 → number_of result ≡ write_refusal number asked key room }
 {
-    let rights = rights_refusal(asked);
-    let version = asked.version as u64;
-    let length = text_length(number, version, asked.place, asked.mcc, asked.mnc);
-    refuse(
-        !is_slot_number(number),
-        refusals::SLOT_NUMBER,
-        refuse(
-            !is_algorithm(asked.algorithm),
-            refusals::ALGORITHM,
-            refuse(
-                rights != refusals::DONE,
-                rights,
-                refuse(room < length, refusals::RECORD_ROOM, refusals::DONE),
-            ),
-        ),
-    )
+    Refusal::SlotNumberBad.when(!is_slot_number(number))?;
+    Refusal::AlgorithmUnknown.when(!is_algorithm(asked.algorithm))?;
+    rights_refusal(asked)?;
+    Refusal::RecordTooLong.when(room < text_length(number, asked))
 }
 
 // The lines from the side on.
@@ -91,15 +76,17 @@ fn put_record(buffer: &mut [u8], number: u64, asked: Asked, key: [u8; 24]) -> us
     put_last(buffer, side, asked, key)
 }
 
-// The text of a record, at the front of the buffer. The bytes after it stay.
-pub fn write_record(number: u64, asked: Asked, key: [u8; 24], buffer: &mut [u8]) -> RecordWritten
-    ensures { (result ≡ record_written number asked key buffer.old)
+// The text of a record, at the front of the buffer, and its length. The bytes after it stay.
+#[tactic(auto, using(crate::proofs::Refusals::write_steps), unfolding(crate::specs::Written::record_written, crate::specs::Written::buffer_written))]
+pub fn write_record(
+    number: u64,
+    asked: Asked,
+    key: [u8; 24],
+    buffer: &mut [u8],
+) -> Result<usize, Refusal>
+    ensures { (record_written_as result ≡ record_written number asked key buffer.old)
         × (buffer.new ≡ buffer_written number asked key buffer.old) }
 {
-    let refusal = write_refusal(number, asked, buffer.len());
-    if refusal != refusals::DONE {
-        return RecordWritten { refusal, length: 0 };
-    }
-    let length = put_record(buffer, number, asked, key);
-    RecordWritten { refusal, length }
+    write_refusal(number, asked, buffer.len())?;
+    Ok(put_record(buffer, number, asked, key))
 }
