@@ -5,7 +5,7 @@ use Prim.Native.Nat.{ℕ}
 use borrow.Author.Tests.{eqb-true, not-false}
 use lib.Dec.{eqb, lit<}
 use Rattle.laws.proofs.Cases.{unpicked}
-use Rattle.refusals.proofs.Judged.{number_some}
+use Rattle.refusals.proofs.Judged.{number-above_0}
 use Rattle.fields.specs.Fields.{is_algorithm}
 use Rattle.block_counts.proofs.Blocks.{used_pos}
 use Rattle.bench.specs.Bench.{keyed_refusal}
@@ -29,4 +29,4 @@ keyed-passed algorithm key iv size start n skip e =
     }
 
 -- what a call with its own key needs to be shown, once it is accepted or refused
-pub ruleset keyed_steps = (keyed-passed, number_some, used_pos)
+pub ruleset keyed_steps = (keyed-passed, number-above_0, used_pos)

@@ -188,7 +188,7 @@ impl Pdu {
 // The plan of a PDU. kind is 1 for DMAC-DATA, 2 for DMAC-SYNC on SCH/H, 3 for DMAC-SYNC on SCH/S; state is the air interface encryption
 // state, 0 to 3; flag is the fragmentation flag; length is in bits; address and sdu are the bits at which the destination address and
 // the DM-SDU start, counted from 0.
-#[tactic(auto, using(refusals::proofs::Judged::number_some), unfolding(crate::specs::Plan::plan_of))]
+#[tactic(auto, using(refusals::proofs::Judged::judged_steps), unfolding(crate::specs::Plan::plan_of))]
 pub fn plan_pdu(
     kind: u64,
     state: u64,

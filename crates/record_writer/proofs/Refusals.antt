@@ -17,7 +17,7 @@ use Rattle.fields.specs.declared.Asked.{Asked}
 use Rattle.fields.specs.declared.Fields.{Fields}
 use Rattle.record_text.specs.Text.{record_text, Good}
 use Rattle.writing.specs.Writing.{Room, Put, at_front}
-use Rattle.refusals.proofs.Judged.{number_some}
+use Rattle.refusals.proofs.Judged.{number-above_0}
 use Rattle.writing.specs.Text.{digits}
 use Rattle.record_text.proofs.Lengths.{text-length}
 use Rattle.record_writer.specs.Written.{write_refusal, record_written_as, record_written, buffer_written}
@@ -111,4 +111,4 @@ pub written-length : (number : ℕ) (a : Asked) (key : List ℕ) → rights_refu
     ≡ 119 + (length (digits number) + (length (digits a.version) + (length (digits a.place) + (length (digits a.mcc) + length (digits a.mnc)))))
 written-length number a key e size = text-length number (stored_of a) key (right a e).side size
 
-pub ruleset write_steps = (written-length, number_some)
+pub ruleset write_steps = (written-length, number-above_0)
