@@ -33,11 +33,14 @@ module _ (table : List Slot) (from to asked : ℕ) where
   abbrev judged : ℕ
   judged = move_refusal_of (has_bad table) source target from to asked
 
+  abbrev Passes : Type 0
+  Passes = MovePassedOf (has_bad table) source target from to asked
+
   sees : (bad : Bool) (f g : Fields) (r : ℕ) → bad ≡ has_bad table → f ≡ (slot_as table from).fields → g ≡ (slot_as table to).fields
       → r ≡ move_refusal_of bad (keyless f) (keyless g) from to asked → r ≡ judged
   sees bad f g r b source-is target-is e = e ∙ (λ i. move_refusal_of (b i) (keyless (source-is i)) (keyless (target-is i)) from to asked)
 
-  passed : (r : ℕ) → r ≡ judged → r ≡ done → MovePassedOf (has_bad table) source target from to asked
+  passed : (r : ℕ) → r ≡ judged → r ≡ done → Passes
   passed r e d = move-passed-of _ _ _ _ _ _ (sym e ∙ d)
 
   answers : (r : ℕ) (s : Slot) (put : Put) → r ≡ judged → s ≡ slot_as table from → put ≡ move_put r s asked
@@ -65,13 +68,15 @@ pub with_slot-carried-requires : goal.with_slot-carried-requires
 with_slot-carried-requires c =
     let a = c.args in
     let r = sees a.table a.from a.to a.asked _ _ _ _ c.table_is_bad.ensures c.fields_or_none.ensures c.fields_or_none-2.ensures c.move_refusal-judged.ensures in
-    (passed a.table a.from a.to a.asked _ r (ap refusal (sym c.in_ok-slot.ensures))).to-numbered
+    let passes : Passes a.table a.from a.to a.asked = passed a.table a.from a.to a.asked _ r (ap refusal (sym c.in_ok-slot.ensures)) in
+    cc
 
 pub with_slot-requires : goal.with_slot-requires
 with_slot-requires c =
     let a = c.args in
     let r = sees a.table a.from a.to a.asked _ _ _ _ c.table_is_bad.ensures c.fields_or_none.ensures c.fields_or_none-2.ensures c.move_refusal-judged.ensures in
-    (passed a.table a.from a.to a.asked _ r (ap refusal (sym c.in_ok-slot.ensures))).from-numbered
+    let passes : Passes a.table a.from a.to a.asked = passed a.table a.from a.to a.asked _ r (ap refusal (sym c.in_ok-slot.ensures)) in
+    cc
 
 pub returns : goal.returns
 returns c =
