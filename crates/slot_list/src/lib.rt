@@ -2,25 +2,14 @@
 // asked for is copied with its key.
 #![tactic(auto)]
 
-ghost use Rattle.std.specs.Prelude.{◌≡◌, ◌||◌, not};
-ghost use Rattle.slots.specs.Slots.{is_filled, is_empty};
-ghost use Rattle.slot_list.specs.List.{is_no_table, place_of, fields_in, slot_in, place_to, put_in};
+ghost use Rattle.std.specs.Prelude.{◌≡◌, ◌<◌, IfSome, unwrap_or};
+ghost use Rattle.refusals.specs.Refused.{number_of};
+ghost use Rattle.slot_calls.specs.Answers.{put_of};
+ghost use Rattle.slot_list.specs.List.{is_no_table, place_of, fields_in, slot_in, put_in};
 
 use fields::Fields;
-use slot_calls::Put;
+use refusals::Refusal;
 use slots::Slot;
-
-fn is_unfilled(slot: Slot) -> bool
-    ensures { result ≡ not (is_filled slot) }
-{
-    !slots::is_filled(slot)
-}
-
-fn or_not_empty(bad: bool, slot: Slot) -> bool
-    ensures { result ≡ bad || not (is_empty slot) }
-{
-    bad || !slots::is_empty(slot)
-}
 
 // Whether the lent records are no table: there is another number of them than 32, or one is neither empty nor filled.
 // A key is read only where every field of its slot is zero: so no key of a filled slot is left behind by the test. Most slots are filled, or their
@@ -28,88 +17,49 @@ fn or_not_empty(bad: bool, slot: Slot) -> bool
 pub fn is_no_table(t: &[Slot]) -> bool
     ensures { result ≡ is_no_table t.now }
 {
-    let mut bad = true;
-    if t.len() == 32 {
-        bad = false;
-        let mut i: usize = 0;
-        while i < 32 {
-            if is_unfilled(t[i]) {
-                let worse = or_not_empty(bad, t[i]);
-                bad = worse;
-            }
-            i += 1;
-        }
-    }
-    bad
+    t.len() != 32 || t.iter().any(|slot| !slots::are_filled(slot.fields) && !slots::is_empty(*slot))
 }
 
-// Where the slot of a number stands among this many records: past their end if there is none.
-fn place_of(count: usize, number: u64) -> usize
-    ensures { result ≡ place_of count number }
+// Where the slot of a number stands among this many records.
+fn place_of(count: usize, number: u64) -> Option<usize>
+    ensures place { unwrap_or result count ≡ place_of count number }
+    ensures within { IfSome result (λ i. i < count) }
 {
-    if count != 32 {
-        return count;
+    if count == 32 && fields::is_slot_number(number) {
+        Some((number - 1) as usize)
+    } else {
+        None
     }
-    if !fields::is_slot_number(number) {
-        return count;
-    }
-    (number - 1) as usize
 }
 
 // The slot of a number, with its key; an empty one if there is none.
 pub fn slot_in(t: &[Slot], number: u64) -> Slot
     ensures { result ≡ slot_in t.now number }
 {
-    let mut slot = slots::empty_slot();
-    let i = place_of(t.len(), number);
-    if i < t.len() {
-        slot = t[i];
+    match place_of(t.len(), number) {
+        Some(i) => t[i],
+        None => slots::empty_slot(),
     }
-    slot
-}
-
-fn fields_of(slot: Slot) -> Fields
-    ensures { result ≡ slot.fields }
-{
-    slot.fields
 }
 
 // What the slot of a number shows; nothing if there is none.
 pub fn fields_in(t: &[Slot], number: u64) -> Fields
     ensures { result ≡ fields_in t.now number }
 {
-    fields_of(slot_in(t, number))
-}
-
-fn slot_of(put: Put) -> Slot
-    ensures { result ≡ put.slot }
-{
-    put.slot
-}
-
-fn refusal_of(put: Put) -> u8
-    ensures { result ≡ put.refusal }
-{
-    put.refusal
-}
-
-// Where a slot is put: past the end if there is no such slot, or the call is refused.
-fn place_to(count: usize, number: u64, put: Put) -> usize
-    ensures { result ≡ place_to count number put }
-{
-    if put.refusal != refusals::DONE {
-        return count;
+    match place_of(t.len(), number) {
+        Some(i) => t[i].fields,
+        None => slots::no_fields(),
     }
-    place_of(count, number)
 }
 
-// The slot goes to its place, and the answer to the caller.
-pub fn put_slot(t: &mut [Slot], number: u64, put: Put) -> u8
-    ensures { (result ≡ put.refusal) × (t.new ≡ put_in t.old number put) }
+// The slot goes to its place, and the answer to the caller. A refusal changes nothing.
+pub fn put_slot(t: &mut [Slot], number: u64, put: Result<Slot, Refusal>) -> Result<(), Refusal>
+    ensures answer { number_of result ≡ (put_of put).refusal }
+    ensures after { t.new ≡ put_in t.old number (put_of put) }
 {
-    let i = place_to(t.len(), number, put);
-    if i < t.len() {
-        t[i] = slot_of(put);
+    let slot = put?;
+    if let Some(i) = place_of(t.len(), number) {
+        t[i] = slot;
     }
-    refusal_of(put)
+    Ok(())
 }
