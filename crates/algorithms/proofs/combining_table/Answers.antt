@@ -1,17 +1,18 @@
--- `algorithms::combining_table`: by the tests that led to each answer. Assumes nothing.
-use borrow.Author.Tests.{eq-eqb, ne_eqb}
+-- `algorithms::combining_table`: by the number's algorithm. Assumes nothing.
+use mathlib.Core.Path.{sym, ◌∙◌}
 use Rattle.algorithms.specs.Algorithm.{combining}
 use Rattle.algorithms.specs.Combining.{f_tea5, f_tea6, f_tea7}
+use Rattle.algorithms.proofs.Numbers.{picked}
 use Rattle.algorithms.proofs.combining_table.Goals as goal
 
-pub returns-then-algorithm-eq5 : goal.returns-then-algorithm-eq5
+pub returns-in-Tea5 : goal.returns-in-Tea5
 unfolding combining f_tea5 f_tea6 f_tea7
-returns-then-algorithm-eq5 c = rw (eq-eqb _ 5 c.if-algorithm-eq5.true)
+returns-in-Tea5 c = picked c.args.algorithm f_tea5 f_tea6 f_tea7 (sym c.in-Tea5.is ∙ c.from.ensures)
 
-pub returns-then-algorithm-eq6 : goal.returns-then-algorithm-eq6
+pub returns-in-Tea6 : goal.returns-in-Tea6
 unfolding combining f_tea5 f_tea6 f_tea7
-returns-then-algorithm-eq6 c = rw (ne_eqb _ 5 c.if-algorithm-eq5.false, eq-eqb _ 6 c.if-algorithm-eq6.true)
+returns-in-Tea6 c = picked c.args.algorithm f_tea5 f_tea6 f_tea7 (sym c.in-Tea6.is ∙ c.from.ensures)
 
-pub returns : goal.returns
+pub returns-in-Tea7 : goal.returns-in-Tea7
 unfolding combining f_tea5 f_tea6 f_tea7
-returns c = rw (ne_eqb _ 5 c.if-algorithm-eq5.false, ne_eqb _ 6 c.if-algorithm-eq6.false)
+returns-in-Tea7 c = picked c.args.algorithm f_tea5 f_tea6 f_tea7 (sym c.in-Tea7.is ∙ c.from.ensures)

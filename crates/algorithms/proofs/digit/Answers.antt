@@ -1,16 +1,17 @@
--- `algorithms::digit`: by the tests that led to each answer. Assumes nothing.
-use borrow.Author.Tests.{eq-eqb, ne_eqb}
+-- `algorithms::digit`: by the number's algorithm. Assumes nothing.
+use mathlib.Core.Path.{sym, ◌∙◌}
 use Rattle.algorithms.specs.Algorithm.{digit_of}
+use Rattle.algorithms.proofs.Numbers.{picked}
 use Rattle.algorithms.proofs.digit.Goals as goal
 
-pub returns-then-algorithm-eq5 : goal.returns-then-algorithm-eq5
+pub returns-in-Tea5 : goal.returns-in-Tea5
 unfolding digit_of
-returns-then-algorithm-eq5 c = rw (eq-eqb _ 5 c.if-algorithm-eq5.true)
+returns-in-Tea5 c = picked c.args.algorithm 53 54 55 (sym c.in-Tea5.is ∙ c.from.ensures)
 
-pub returns-then-algorithm-eq6 : goal.returns-then-algorithm-eq6
+pub returns-in-Tea6 : goal.returns-in-Tea6
 unfolding digit_of
-returns-then-algorithm-eq6 c = rw (ne_eqb _ 5 c.if-algorithm-eq5.false, eq-eqb _ 6 c.if-algorithm-eq6.true)
+returns-in-Tea6 c = picked c.args.algorithm 53 54 55 (sym c.in-Tea6.is ∙ c.from.ensures)
 
-pub returns : goal.returns
+pub returns-in-Tea7 : goal.returns-in-Tea7
 unfolding digit_of
-returns c = rw (ne_eqb _ 5 c.if-algorithm-eq5.false, ne_eqb _ 6 c.if-algorithm-eq6.false)
+returns-in-Tea7 c = picked c.args.algorithm 53 54 55 (sym c.in-Tea7.is ∙ c.from.ensures)
