@@ -7,29 +7,29 @@ ghost use Rattle.words.specs.Words.{join, byte_of};
 pub fn join_bytes(a: u8, b: u8, c: u8, d: u8) -> u32
     ensures { result ≡ join a b c d }
 {
-    (a as u32) * 16777216 + (b as u32) * 65536 + (c as u32) * 256 + (d as u32)
+    u32::from_be_bytes([a, b, c, d])
 }
 
 pub fn byte0(w: u32) -> u8
     ensures { result ≡ byte_of w 0 }
 {
-    (w / 16777216) as u8
+    w.to_be_bytes()[0]
 }
 
 pub fn byte1(w: u32) -> u8
     ensures { result ≡ byte_of w 1 }
 {
-    (w / 65536 % 256) as u8
+    w.to_be_bytes()[1]
 }
 
 pub fn byte2(w: u32) -> u8
     ensures { result ≡ byte_of w 2 }
 {
-    (w / 256 % 256) as u8
+    w.to_be_bytes()[2]
 }
 
 pub fn byte3(w: u32) -> u8
     ensures { result ≡ byte_of w 3 }
 {
-    (w % 256) as u8
+    w.to_be_bytes()[3]
 }
