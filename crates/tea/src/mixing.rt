@@ -8,9 +8,7 @@ fn first_bytes(iv: [u8; 10]) -> [u8; 44]
     ensures { Filled (expanded_byte iv) 0 44 result 10 }
 {
     let mut b = [0u8; 44];
-    for i in 0..10 {
-        b[i] = iv[i];
-    }
+    b[..10].copy_from_slice(&iv);
     b
 }
 
@@ -36,8 +34,6 @@ pub fn mixed_value(iv: [u8; 10]) -> [u8; 24]
 {
     let b = mixed_bytes(iv);
     let mut ivx = [0u8; 24];
-    for k in 0..24 {
-        ivx[k] = b[20 + k];
-    }
+    ivx.copy_from_slice(&b[20..]);
     ivx
 }

@@ -1,5 +1,5 @@
 // The mode key and the mode value: clauses 5.3, 6.3, 7.3.
-ghost use Rattle.std.specs.Prelude.{◌≡◌, ◌+◌, ◌*◌, ◌/◌, ◌%◌};
+ghost use Rattle.std.specs.Prelude.{◌≡◌, ◌+◌, ◌*◌, ◌<◌};
 ghost use Rattle.tea.specs.Mode.{combined, mode_by, mode_of};
 
 use crate::mixing::mixed_value;
@@ -13,31 +13,20 @@ pub struct Mode {
     pub digit: u8,
 }
 
-// f of the high halves of a byte of CK and of IVX.
-fn combine_high(f: &[u8; 256], c: u8, v: u8) -> u8
-    ensures { result ≡ combined f.now (c / 16) (v / 16) }
+// Two halves of bytes as one byte.
+fn join_halves(high: u8, low: u8) -> u8
+    requires { (high < 16) × (low < 16) }
+    ensures { result ≡ high * 16 + low }
 {
-    f[(c / 16 * 16 + v / 16) as usize]
+    high * 16 + low
 }
 
-// f of their low halves.
-fn combine_low(f: &[u8; 256], c: u8, v: u8) -> u8
-    ensures { result ≡ combined f.now (c % 16) (v % 16) }
+// f of two halves: one of a byte of CK, and one of a byte of IVX.
+fn combine(f: &[u8; 256], high: u8, low: u8) -> u8
+    requires { (high < 16) × (low < 16) }
+    ensures { result ≡ combined f.now high low }
 {
-    f[(c % 16 * 16 + v % 16) as usize]
-}
-
-// The high halves of two bytes, and their low halves.
-fn high_halves(x: u8, y: u8) -> u8
-    ensures { result ≡ x / 16 * 16 + y / 16 }
-{
-    x / 16 * 16 + y / 16
-}
-
-fn low_halves(x: u8, y: u8) -> u8
-    ensures { result ≡ x % 16 * 16 + y % 16 }
-{
-    x % 16 * 16 + y % 16
+    f[join_halves(high, low) as usize]
 }
 
 // The mode of a key and a mixed value, by the lent table of f.
@@ -47,10 +36,10 @@ fn mode_by(f: &[u8; 256], digit: u8, ck: [u8; 24], ivx: [u8; 24]) -> Mode
     let mut ckm = [0u8; 24];
     let mut ivm = [0u8; 24];
     for k in 0..24 {
-        let x = combine_high(f, ck[k], ivx[k]);
-        let y = combine_low(f, ck[k], ivx[k]);
-        ckm[k] = high_halves(x, y);
-        ivm[k] = low_halves(x, y);
+        let x = combine(f, ck[k] / 16, ivx[k] / 16);
+        let y = combine(f, ck[k] % 16, ivx[k] % 16);
+        ckm[k] = join_halves(x / 16, y / 16);
+        ivm[k] = join_halves(x % 16, y % 16);
     }
     Mode {
         key: ckm,

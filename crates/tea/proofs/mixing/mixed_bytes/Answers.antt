@@ -1,6 +1,6 @@
 -- `tea::mixing::mixed_bytes`: the bytes below i are right, whatever initial value the first ten are of; `last` is byte i - 1, and `two` the sum of bytes i - 10 and i - 9. Assumes nothing.
 use mathlib.Core.Path.{◌≡◌, ◌∙◌}
-use Prim.Native.Nat.{◌-◌, ◌<◌}
+use Prim.Native.Nat.{◌<◌}
 use native.Mathlib.Omega.{arith}
 use borrow.Author.Rules.{rules}
 use lib.Bits.{bit_xor}
