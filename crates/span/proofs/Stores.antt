@@ -1,21 +1,22 @@
 -- What the stores of bytes do to the bits of a buffer. Assumes nothing.
 use mathlib.Core.Path.{◌≡◌, sym, ap, ◌∙◌}
 use mathlib.Core.Logic.{⊎_elim}
-use mathlib.Core.List.{List, [], ◌∷◌}
-use Prim.Native.Nat.{ℕ, ◌+◌, ◌-◌, ◌*◌, ◌/◌, ◌%◌, ◌^◌, ◌<◌, ◌≤◌}
-use native.Mathlib.Nat.{mod-lt, mod-le, lt_of_le_of_lt, mod-eq_of_lt, one-mul}
+use mathlib.Core.List.{List, [], ◌∷◌, ◌++◌}
+use Prim.Native.Nat.{ℕ, zero, suc, ◌+◌, ◌-◌, ◌*◌, ◌/◌, ◌%◌, ◌^◌, ◌<◌, ◌≤◌}
+use native.Mathlib.Nat.{mod-lt, mod-le, lt_of_le_of_lt, mod-eq_of_lt, one-mul, zero-add}
 use native.Mathlib.Omega.{arith}
 use lib.Bits.{bit_xor, xor_lt}
-use lib.ListN.{length, get_or, set, length-set}
+use lib.ListN.{length, get_or, set, drop, replicate, length-set}
 use lib.Dec.{lit<}
 use lib.Pow.{shr-shr, pow_mono}
-use lib.Seq.{get_or-set_other}
+use lib.Seq.{get_or-set_other, paste, paste-zero, paste-suc, take_all}
+use Rattle.std.proofs.lemmas.List.{length-replicate, get_or-replicate}
 use Rattle.laws.specs.Bits.{bit_of, bit_at, byte_of_bits}
 use Rattle.laws.proofs.Cases.{below-eight, lt-or-le}
 use Rattle.laws.proofs.Bits.{bit-xor, low-kept, low-gone, high-kept, high-gone, at_byte, byte-is-bits, bits-of-byte, byte-lt, byte-ext, set-bytes}
 use Rattle.span.specs.Span.{span_bit, put_bit, xored, written, zeroed, nought}
 use Rattle.span.proofs.Within.{Binary, Beside, within_in, within-out, in-or-out, nought-lt}
-use Rattle.span.proofs.Laws.{Bytes, length-xored, length-written, xored-bytes, written-bytes, xored-join, cleared-join}
+use Rattle.span.proofs.Laws.{Bytes, written_none, length-xored, length-written, xored-bytes, written-bytes, xored-join, cleared-join}
 
 -- byte y xor eight bits of a stream
 pub set-xored : (l : List ℕ) (k : ℕ → ℕ) (from y : ℕ) → Binary k → y < length l → Bytes l
@@ -193,3 +194,21 @@ pair-at z q i h =
     let e : (8 * q + i) / 8 ≡ q + 1 = omega arith in
     rw (d, e, m))
     (lt-or-le i 8)
+
+-- q bytes 0 in front, and the others as they were
+module _ (old : List ℕ) (q : ℕ) (bytes : Bytes old) (h : q ≤ length old) where
+  zeroed_front : (j : ℕ) → j ≤ q → paste old 0 (replicate q 0) j ≡ zeroed old 0 (8 * j)
+  zeroed_front zero l = sym (paste-zero old 0 (replicate q 0)) ∙ sym (written_none old nought 0 0 bytes)
+  zeroed_front (suc j) l =
+      let s = paste old 0 (replicate q 0) j in
+      let more : 8 * j + 8 ≡ 8 * suc j = omega arith in
+      let zeros : List ℕ = replicate q 0 in
+      let within : j < length zeros = omega (arith, length-replicate {A = ℕ} q 0) in
+      sym (paste-suc old 0 (replicate q 0) j 0 (omega arith) within)
+      ∙ (λ i. set s (zero-add j i) (get_or-replicate q j 0 0 (omega arith) i))
+      ∙ cleared_more old s j 8 0 (omega arith) (omega arith) (zeroed_front j (omega arith)) (omega arith)
+      ∙ ap (zeroed old 0) more
+
+  pub front_zeroed : replicate q 0 ++ drop q old ≡ zeroed old 0 (8 * q)
+  front_zeroed =
+      sym (λ i. take_all q (replicate q 0) (omega (arith, length-replicate {A = ℕ} q 0)) i ++ drop (zero-add q i) old) ∙ zeroed_front q (omega arith)

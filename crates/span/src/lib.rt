@@ -51,9 +51,7 @@ fn padded(k: [u8; 32]) -> [u8; 35]
     ensures { result ≡ framed k }
 {
     let mut z = [0u8; 35];
-    for i in 0..32 {
-        z[i + 1] = k[i];
-    }
+    z[1..33].copy_from_slice(&k);
     z
 }
 
@@ -119,9 +117,7 @@ pub fn clear_front(s: &mut [u8], n: usize)
 {
     let q = n / 8;
     let o = n % 8;
-    for y in 0..q {
-        s[y] = 0;
-    }
+    s[..q].fill(0);
     if o == 0 {
         return;
     }
