@@ -1,10 +1,9 @@
 -- Products with a byte, the inverse of a byte and the S-box at a byte are bytes. Assumes nothing.
 use mathlib.Core.Bool.{Bool, true, false}
-use mathlib.Core.Path.{◌≡◌}
 use Prim.Native.Nat.{ℕ, zero, suc, ◌/◌, ◌%◌, ◌<◌, zero-le}
 use native.Mathlib.Omega.{arith}
 use borrow.Author.Tests.{ltb-true}
-use lib.Bits.{bit_xor, xor_lt}
+use lib.Bits.{xor_lt}
 use lib.Dec.{ltb, eqb, lit<}
 use Rattle.laws.specs.Choice.{pick}
 use Rattle.laws.proofs.Tests.{holds}

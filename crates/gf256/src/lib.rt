@@ -1,4 +1,4 @@
-// Bytes as elements of GF(2^8): M, the table of the S-box, to be lent, and doubling.
+// Bytes as elements of GF(2^8): M, the S-box as a table to be lent, and doubling.
 #![tactic(auto)]
 
 ghost use Rattle.std.specs.Prelude.{◌≡◌};
@@ -23,11 +23,26 @@ const S_BOX: [u8; 256] = *b"\
     \xe1\xf8\x98\x11\x69\xd9\x8e\x94\x9b\x1e\x87\xe9\xce\x55\x28\xdf\
     \x8c\xa1\x89\x0d\xbf\xe6\x42\x68\x41\x99\x2d\x0f\xb0\x54\xbb\x16";
 
-// The S-box. A public call takes it once and lends it: a function that names a constant copies it.
-pub fn s_box_table() -> [u8; 256]
-    ensures { result ≡ s_boxes }
-{
-    S_BOX
+// The S-box as a table. A public call makes it once and lends it: a function that names a constant copies it.
+#[derive(Drop)]
+pub struct SBox {
+    table: [u8; 256],
+    ghost is_s_box: { table ≡ s_boxes },
+}
+
+impl SBox {
+    pub fn new() -> Self
+        ensures { result.table ≡ s_boxes }
+    {
+        SBox { table: S_BOX }
+    }
+
+    // b through the S-box.
+    pub fn substitute(&self, b: u8) -> u8
+        ensures { result ≡ s_box b }
+    {
+        self.table[b as usize]
+    }
 }
 
 // M (clauses 5.5, 6.5, 7.5), b times 0xd7, by shifts and sums. 0xd7 is 3 (9 + 4 + 64), and the polynomial brings what goes out above bit 7
@@ -40,14 +55,6 @@ pub fn times_d7(b: u8) -> u8
     let nine = near ^ near >> 4;
     let third = nine ^ nine << 3 ^ b << 2 ^ b << 6;
     third ^ third << 1
-}
-
-// b through the lent S-box.
-pub fn substituted(table: &[u8; 256], b: u8) -> u8
-    requires { table.now ≡ s_boxes }
-    ensures { result ≡ s_box b }
-{
-    table[b as usize]
 }
 
 // Twice b, without a test: the bit that goes out takes the polynomial with it.

@@ -27,19 +27,26 @@ const INV_S_BOX: [u8; 256] = *b"\
     \xa0\xe0\x3b\x4d\xae\x2a\xf5\xb0\xc8\xeb\xbb\x3c\x83\x53\x99\x61\
     \x17\x2b\x04\x7e\xba\x77\xd6\x26\xe1\x69\x14\x63\x55\x21\x0c\x7d";
 
-// The inverse S-box, to be taken once and lent: a function that names a constant copies it.
-pub fn inv_s_box_table() -> [u8; 256]
-    ensures { result ≡ inv_s_boxes }
-{
-    INV_S_BOX
+// The inverse S-box as a table, to be made once and lent: a function that names a constant copies it.
+#[derive(Drop)]
+pub struct InvSBox {
+    table: [u8; 256],
+    ghost is_inv_s_box: { table ≡ inv_s_boxes },
 }
 
-// b through the lent inverse S-box.
-pub fn inv_substituted(table: &[u8; 256], b: u8) -> u8
-    requires { table.now ≡ inv_s_boxes }
-    ensures { result ≡ inv_s_box b }
-{
-    table[b as usize]
+impl InvSBox {
+    pub fn new() -> Self
+        ensures { result.table ≡ inv_s_boxes }
+    {
+        InvSBox { table: INV_S_BOX }
+    }
+
+    // b through the inverse S-box.
+    pub fn substitute(&self, b: u8) -> u8
+        ensures { result ≡ inv_s_box b }
+    {
+        self.table[b as usize]
+    }
 }
 
 // b where k is odd, else 0.

@@ -1,7 +1,7 @@
 // Rows turned back, and the round keys of a schedule mixed back.
 #![tactic(auto)]
 
-ghost use Rattle.std.specs.Prelude.{◌≡◌, length, get_or};
+ghost use Rattle.std.specs.Prelude.{◌≡◌, get_or};
 ghost use Rattle.laws.specs.Lists.{tabulate};
 ghost use Rattle.inv_parts.specs.Steps.{inv_shift_row};
 ghost use Rattle.inv_parts.specs.Schedule.{inv_mixed_word, mixed_back};
@@ -39,9 +39,8 @@ fn inv_mixed_word(x: u32) -> u32
     )
 }
 
-// Of a schedule of 120 words in a lent slice, round keys 1 to 13, each of eight words. The first and the last stay.
-pub fn mix_back(w: &mut [u32])
-    requires { length w.old ≡ 120 }
+// Of a schedule of 120 words in a lent array, round keys 1 to 13, each of eight words. The first and the last stay.
+pub fn mix_back(w: &mut [u32; 120])
     ensures { w.new ≡ tabulate (λ i. mixed_back i (get_or w.old i 0)) 0 120 }
 {
     for i in 8..112 {

@@ -4,33 +4,32 @@
 pub mod inv_schedule;
 mod steps;
 
-ghost use Rattle.std.specs.Prelude.{◌≡◌, ◌<◌, length};
+ghost use Rattle.std.specs.Prelude.{◌≡◌, ◌<◌};
 ghost use Rattle.rijndael.specs.Cipher.{to_state, to_block};
-ghost use Rattle.inv_bytes.specs.Bytes.{inv_s_boxes};
 ghost use Rattle.inverse.specs.Decipher.{inv_round_of, inv_final_round, decrypted, decipher};
 
-use inv_bytes::inv_s_box_table;
+use gf256::SBox;
+use inv_bytes::InvSBox;
 use inv_parts::inv_shift_row;
 use rijndael::{to_block, to_state};
 use round_steps::add_round_key;
 use steps::{inv_byte_sub, inv_mix_column};
 
-fn inv_round(s: [[u8; 8]; 4], w: &[u32], n: usize, table: &[u8; 256]) -> [[u8; 8]; 4]
-    requires { (length w.now ≡ 120) × ((n < 15) × (table.now ≡ inv_s_boxes)) }
+fn inv_round(s: [[u8; 8]; 4], w: &[u32; 120], n: usize, table: &InvSBox) -> [[u8; 8]; 4]
+    requires { n < 15 }
     ensures { result ≡ inv_round_of w.now n s }
 {
     add_round_key(inv_mix_column(inv_shift_row(inv_byte_sub(s, table))), w, n)
 }
 
-fn inv_last_round(s: [[u8; 8]; 4], w: &[u32], n: usize, table: &[u8; 256]) -> [[u8; 8]; 4]
-    requires { (length w.now ≡ 120) × ((n < 15) × (table.now ≡ inv_s_boxes)) }
+fn inv_last_round(s: [[u8; 8]; 4], w: &[u32; 120], n: usize, table: &InvSBox) -> [[u8; 8]; 4]
+    requires { n < 15 }
     ensures { result ≡ inv_final_round w.now n s }
 {
     add_round_key(inv_shift_row(inv_byte_sub(s, table)), w, n)
 }
 
-fn decrypt(s: [[u8; 8]; 4], w: &[u32], table: &[u8; 256]) -> [[u8; 8]; 4]
-    requires { (length w.now ≡ 120) × (table.now ≡ inv_s_boxes) }
+fn decrypt(s: [[u8; 8]; 4], w: &[u32; 120], table: &InvSBox) -> [[u8; 8]; 4]
     ensures { result ≡ decrypted w.now s }
 {
     let mut t = add_round_key(s, w, 14);
@@ -42,8 +41,7 @@ fn decrypt(s: [[u8; 8]; 4], w: &[u32], table: &[u8; 256]) -> [[u8; 8]; 4]
 }
 
 // A block under the inverse's schedule.
-pub fn decrypt_block(b: [u8; 32], w: &[u32], table: &[u8; 256]) -> [u8; 32]
-    requires { (length w.now ≡ 120) × (table.now ≡ inv_s_boxes) }
+pub fn decrypt_block(b: [u8; 32], w: &[u32; 120], table: &InvSBox) -> [u8; 32]
     ensures { result ≡ to_block (decrypted w.now (to_state b)) }
 {
     to_block(decrypt(to_state(b), w, table))
@@ -53,8 +51,8 @@ pub fn decrypt_block(b: [u8; 32], w: &[u32], table: &[u8; 256]) -> [u8; 32]
 pub fn deciphered(key: [u8; 24], b: [u8; 32]) -> [u8; 32]
     ensures { result ≡ decipher key b }
 {
-    let s_box = gf256::s_box_table();
-    let table = inv_s_box_table();
+    let s_box = SBox::new();
+    let table = InvSBox::new();
     let mut w = [0u32; 120];
     inv_schedule::expand_inv_key(&mut w, key, &s_box);
     decrypt_block(b, &w, &table)

@@ -1,18 +1,16 @@
 // The inverse steps that take each byte of a state, and each column.
 ghost use Rattle.std.specs.Prelude.{◌≡◌};
-ghost use Rattle.inv_bytes.specs.Bytes.{inv_s_boxes};
 ghost use Rattle.inv_parts.specs.Steps.{inv_byte_sub, inv_mix_column};
 
-use inv_bytes::{inv_mixed_byte, inv_substituted};
+use inv_bytes::{InvSBox, inv_mixed_byte};
 
-pub fn inv_byte_sub(s: [[u8; 8]; 4], table: &[u8; 256]) -> [[u8; 8]; 4]
-    requires { table.now ≡ inv_s_boxes }
+pub fn inv_byte_sub(s: [[u8; 8]; 4], table: &InvSBox) -> [[u8; 8]; 4]
     ensures { result ≡ inv_byte_sub s }
 {
     let mut t = s;
     for r in 0..4 {
         for c in 0..8 {
-            t[r][c] = inv_substituted(table, s[r][c]);
+            t[r][c] = table.substitute(s[r][c]);
         }
     }
     t

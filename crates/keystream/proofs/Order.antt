@@ -14,7 +14,7 @@ use Rattle.block_counts.proofs.Blocks.{after_none, after-some}
 use Rattle.tea.specs.declared.mode.Mode.{Mode}
 use Rattle.tea.specs.Keystream.{block_of}
 use Rattle.keystream.specs.declared.Work.{Work}
-use Rattle.keystream.specs.Work.{with_block, at_block, Held}
+use Rattle.keystream.specs.Work.{at_block, Held}
 
 -- block j is put in its place
 pub put-held : (mode : Mode) (j : ℕ) (kept : List (List ℕ)) → length kept ≡ 2 → Held mode (j + 1) (set kept (j % 2) (block_of mode j))

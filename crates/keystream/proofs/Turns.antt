@@ -1,9 +1,9 @@
 -- One run and then another, by turns: what the buffer holds, and how many blocks are made. Assumes nothing.
-use mathlib.Core.Path.{◌≡◌, sym, ap, ◌∙◌}
-use mathlib.Core.List.{List}
+use mathlib.Core.Path.{◌≡◌, refl, sym, ap, ◌∙◌}
+use mathlib.Core.List.{List, [], ◌∷◌}
 use Prim.Native.Nat.{ℕ, zero, suc, ◌+◌, ◌-◌, ◌/◌, ◌<◌, ◌≤◌, max}
 use native.Mathlib.Omega.{arith}
-use lib.ListN.{length}
+use lib.ListN.{length, get_or}
 use Rattle.block_counts.specs.Counts.{blocks_used, block_after}
 use Rattle.block_counts.proofs.Blocks.{after-used, after-early, both_used}
 use Rattle.keystream.specs.declared.Run.{Run}
@@ -27,8 +27,11 @@ module _ (p q : Run) where
   made_at zero = 0
   made_at (suc t) = made_at t + (next_at (suc t) - max (next_at t) ((run_at t).skip / 256))
 
-  pub run-after : (t : ℕ) → run_at (t + 1) ≡ q
-  run-after t = ap run_at (one_up t)
+  -- it is the next of the two
+  pub run-is : (none : Run) (t : ℕ) → t < 2 → get_or (p ∷ q ∷ []) t none ≡ run_at t
+  run-is none zero h = refl
+  run-is none (suc zero) h = refl
+  run-is none (suc (suc t)) h = absurd (omega arith)
 
   pub next-after : (t : ℕ) → next_at (t + 1) ≡ block_after (next_at t) (run_at t).skip (run_at t).n
   next-after t = ap next_at (one_up t)

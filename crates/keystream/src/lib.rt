@@ -2,10 +2,8 @@
 // What a call makes is a value: `begin` alone fills a key schedule, `make` alone makes a block, and both count.
 #![tactic(auto)]
 
-ghost use Rattle.std.specs.Prelude.{◌≡◌, [], ◌+◌, ◌-◌, ◌*◌, ◌/◌, ◌%◌, ◌<◌, ◌≤◌, min, max, length, get_or, set};
+ghost use Rattle.std.specs.Prelude.{◌≡◌, ◌+◌, ◌-◌, ◌*◌, ◌/◌, ◌%◌, ◌<◌, ◌≤◌, max, length, set};
 ghost use Rattle.laws.specs.Lists.{tabulate};
-ghost use Rattle.gf256.specs.Field.{s_boxes};
-ghost use Rattle.products.specs.Products.{products};
 ghost use Rattle.schedule.specs.Schedule.{key_word};
 ghost use Rattle.span.specs.Span.{longest_buffer, longest_stream, xored, stream_bit};
 ghost use Rattle.block_counts.specs.Counts.{block_after, blocks_used};
@@ -13,6 +11,8 @@ ghost use Rattle.tea.specs.Keystream.{block_of};
 ghost use Rattle.keystream.specs.Stream.{keystream};
 ghost use Rattle.keystream.specs.Work.{begun, with_block, at_block, Held, Fits, Later, through_run, blocks_over};
 
+use gf256::SBox;
+use products::ProductTable;
 use tea::mode::Mode;
 
 // Buffer bits from `start` on, and keystream bits from `skip` on: n of each.
@@ -38,17 +38,18 @@ struct Work {
     next: usize,
 }
 
-// How many of `left` bits a block still has from its bit `from` on.
-fn piece(from: usize, left: usize) -> usize
-    requires { from < 256 }
-    ensures { result ≡ min left (256 - from) }
-{
-    if left < 256 - from { left } else { 256 - from }
+// What the blocks of a keystream are made with: its mode, the schedule of the mode's key, and the tables.
+#[derive(Drop)]
+struct Engine<'a> {
+    mode: Mode,
+    w: &'a [u32; 120],
+    table: &'a SBox,
+    mixes: &'a ProductTable,
+    ghost keyed: { w.now ≡ tabulate (key_word mode.key) 0 120 },
 }
 
 // Fills the schedule: the one caller of expand_key.
-fn begin(w: &mut [u32], key: [u8; 24], table: &[u8; 256]) -> Work
-    requires { (length w.old ≡ 120) × (table.now ≡ s_boxes) }
+fn begin(w: &mut [u32; 120], key: [u8; 24], table: &SBox) -> Work
     ensures { (w.new ≡ tabulate (key_word key) 0 120) × (result ≡ begun) }
 {
     schedule::expand_key(w, key, table);
@@ -59,27 +60,20 @@ fn begin(w: &mut [u32], key: [u8; 24], table: &[u8; 256]) -> Work
     }
 }
 
-// Makes block j under a mode, whose schedule is lent: the one caller of encrypt_block. Each number is above those made before, so none is made
+// Makes block j: the one caller of encrypt_block. Each number is above those made before, so none is made
 // twice. The block is kept by the parity of its number: an array that is not indexed by a variable would be taken apart into 32 numbers, which
 // cost a long call 6 % of its time.
-fn make(
-    work: Work,
-    kept: &mut [[u8; 32]; 2],
-    mode: Mode,
-    j: usize,
-    w: &[u32],
-    table: &[u8; 256],
-    mixes: &[u8; 2048],
-) -> Work
-    requires { (work.next ≤ j) × (work.blocks ≤ j) × (j < 256) × ((w.now ≡ tabulate (key_word mode.key) 0 120) × ((table.now ≡ s_boxes) × (mixes.now ≡ products))) }
-    ensures { (result ≡ with_block work j) × (kept.new ≡ set kept.old (j % 2) (block_of mode j)) }
+fn make(work: Work, kept: &mut [[u8; 32]; 2], engine: &Engine, j: usize) -> Work
+    requires { (work.next ≤ j) × (work.blocks ≤ j) × (j < 256) }
+    ensures { (result ≡ with_block work j) × (kept.new ≡ set kept.old (j % 2) (block_of engine.now.mode j)) }
 {
+    let mode = engine.mode;
     let value = mode.value;
     kept[j % 2] = rijndael::encrypt_block(
         tea::plaintext::plaintext(value, mode.digit, j as u32),
-        w,
-        table,
-        mixes,
+        engine.w,
+        engine.table,
+        engine.mixes,
     );
     Work {
         schedules: work.schedules,
@@ -89,42 +83,25 @@ fn make(
 }
 
 // Block j at hand: the last one, or one that is made.
-fn reach(
-    work: Work,
-    kept: &mut [[u8; 32]; 2],
-    mode: Mode,
-    j: usize,
-    w: &[u32],
-    table: &[u8; 256],
-    mixes: &[u8; 2048],
-) -> Work
-    requires { (work.next ≤ j + 1) × (work.blocks ≤ work.next) × (j < 256) × Held mode work.next kept.old × ((w.now ≡ tabulate (key_word mode.key) 0 120) × ((table.now ≡ s_boxes) × (mixes.now ≡ products))) }
-    ensures { (result ≡ at_block work j) × Held mode (j + 1) kept.new }
+fn reach(work: Work, kept: &mut [[u8; 32]; 2], engine: &Engine, j: usize) -> Work
+    requires { (work.next ≤ j + 1) × (work.blocks ≤ work.next) × (j < 256) × Held engine.now.mode work.next kept.old }
+    ensures { (result ≡ at_block work j) × Held engine.now.mode (j + 1) kept.new }
 {
     if work.next == j + 1 {
         return work;
     }
-    make(work, kept, mode, j, w, table, mixes)
+    make(work, kept, engine, j)
 }
 
 // Buffer bit start + i becomes itself xor bit skip + i of the mode's keystream, for i below n.
-fn xor_run(
-    work: Work,
-    kept: &mut [[u8; 32]; 2],
-    buf: &mut [u8],
-    p: Run,
-    mode: Mode,
-    w: &[u32],
-    table: &[u8; 256],
-    mixes: &[u8; 2048],
-) -> Work
-    requires { (length buf.old ≤ longest_buffer) × Fits buf.old p × (0 < p.n → work.next ≤ p.skip / 256 + 1) × (work.blocks ≤ work.next) × Held mode work.next kept.old × ((w.now ≡ tabulate (key_word mode.key) 0 120) × ((table.now ≡ s_boxes) × (mixes.now ≡ products))) }
-    ensures { (buf.new ≡ through_run buf.old (stream_bit (block_of mode)) p)
+fn xor_run(work: Work, kept: &mut [[u8; 32]; 2], buf: &mut [u8], p: Run, engine: &Engine) -> Work
+    requires { (length buf.old ≤ longest_buffer) × Fits buf.old p × (0 < p.n → work.next ≤ p.skip / 256 + 1) × (work.blocks ≤ work.next) × Held engine.now.mode work.next kept.old }
+    ensures { (buf.new ≡ through_run buf.old (stream_bit (block_of engine.now.mode)) p)
         × (result.schedules ≡ work.schedules)
         × (result.next ≡ block_after work.next p.skip p.n)
         × (result.blocks ≡ work.blocks + (result.next - max work.next (p.skip / 256)))
         × (result.blocks ≤ result.next)
-        × Held mode result.next kept.new }
+        × Held engine.now.mode result.next kept.new }
 {
     let start = p.start;
     let n = p.n;
@@ -134,8 +111,8 @@ fn xor_run(
     while done < n {
         let at = skip + done;
         let from = at % 256;
-        let some = piece(from, n - done);
-        made = reach(made, kept, mode, at / 256, w, table, mixes);
+        let some = (n - done).min(256 - from);
+        made = reach(made, kept, engine, at / 256);
         let b = kept[at / 256 % 2];
         span::xor_block(buf, b, start + done, from, some);
         done += some;
@@ -151,17 +128,21 @@ pub fn xor_runs(buf: &mut [u8], p: Run, q: Run, algorithm: u64, ck: [u8; 24], iv
         × (result.schedules ≡ 1)
         × (result.blocks ≡ blocks_over p q) }
 {
-    let table = gf256::s_box_table();
+    let table = SBox::new();
     let mode = tea::mode::mode_of(algorithm, ck, iv);
     let key = mode.key;
     let mut w = [0u32; 120];
     let mut made = begin(&mut w, key, &table);
-    let mixes = products::product_table();
+    let mixes = ProductTable::new();
+    let engine = Engine {
+        mode,
+        w: &w,
+        table: &table,
+        mixes: &mixes,
+    };
     let mut kept = [[0u8; 32]; 2];
-    let mut run = p;
-    for turn in 0..2usize {
-        made = xor_run(made, &mut kept, buf, run, mode, &w, &table, &mixes);
-        run = q;
+    for run in [p, q] {
+        made = xor_run(made, &mut kept, buf, run, &engine);
     }
     Tally {
         schedules: made.schedules,

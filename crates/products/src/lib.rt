@@ -1,8 +1,9 @@
 // The table by which three steps of a round are one: what each byte adds to its mixed column.
 #![tactic(auto)]
 
-ghost use Rattle.std.specs.Prelude.{◌≡◌};
-ghost use Rattle.products.specs.Products.{products};
+ghost use Rattle.std.specs.Prelude.{◌≡◌, ◌<◌};
+ghost use Rattle.gf256.specs.Field.{s_box};
+ghost use Rattle.products.specs.Products.{share, products};
 
 // Of each byte, with s for its S-box value: 3 s, s, s, 2 s, and the same again, so that the column of any row is four in a row.
 const PRODUCTS: [u8; 2048] = *b"\
@@ -135,9 +136,25 @@ const PRODUCTS: [u8; 2048] = *b"\
     \xcb\xb0\xb0\x7b\xcb\xb0\xb0\x7b\xfc\x54\x54\xa8\xfc\x54\x54\xa8\
     \xd6\xbb\xbb\x6d\xd6\xbb\xbb\x6d\x3a\x16\x16\x2c\x3a\x16\x16\x2c";
 
-// The table, to be taken once a call and lent: a function that names a constant copies it.
-pub fn product_table() -> [u8; 2048]
-    ensures { result ≡ products }
-{
-    PRODUCTS
+// The table. A public call makes it once and lends it: a function that names a constant copies it.
+#[derive(Drop)]
+pub struct ProductTable {
+    table: [u8; 2048],
+    ghost is_products: { table ≡ products },
+}
+
+impl ProductTable {
+    pub fn new() -> Self
+        ensures { result.table ≡ products }
+    {
+        ProductTable { table: PRODUCTS }
+    }
+
+    // What byte b adds, at one of its eight places.
+    pub fn share(&self, b: u8, place: usize) -> u8
+        requires { place < 8 }
+        ensures { result ≡ share (s_box b) place }
+    {
+        self.table[8 * (b as usize) + place]
+    }
 }

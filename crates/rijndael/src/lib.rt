@@ -1,11 +1,11 @@
 // Rijndael with blocks of 256 bits and keys of 192 bits: 14 rounds on a state of four rows by eight columns.
 #![tactic(auto)]
 
-ghost use Rattle.std.specs.Prelude.{◌≡◌, ◌+◌, ◌*◌, length, get_or};
-ghost use Rattle.gf256.specs.Field.{s_boxes};
-ghost use Rattle.products.specs.Products.{products};
+ghost use Rattle.std.specs.Prelude.{◌≡◌, ◌+◌, ◌*◌, get_or};
 ghost use Rattle.rijndael.specs.Cipher.{to_state, to_block, encrypted};
 
+use gf256::SBox;
+use products::ProductTable;
 use round_steps::last_round;
 use rounds::packing::{from_words, keyed_words, to_words};
 use rounds::round;
@@ -57,8 +57,7 @@ fn with_pair(t: [u32; 8], pair: u64) -> [u32; 8]
 
 // The initial key, rounds 1 to 13, and the final round. Between two rounds the state is eight words, and two of them go on as one number: of eight
 // that are alike the compiler takes four into one vector register, where a round takes longer and its keys stay behind.
-fn encrypt(s: [[u8; 8]; 4], w: &[u32], table: &[u8; 256], mixes: &[u8; 2048]) -> [[u8; 8]; 4]
-    requires { (length w.now ≡ 120) × ((table.now ≡ s_boxes) × (mixes.now ≡ products)) }
+fn encrypt(s: [[u8; 8]; 4], w: &[u32; 120], table: &SBox, mixes: &ProductTable) -> [[u8; 8]; 4]
     ensures { result ≡ encrypted w.now s }
 {
     let mut t = keyed_words(s, w);
@@ -72,8 +71,7 @@ fn encrypt(s: [[u8; 8]; 4], w: &[u32], table: &[u8; 256], mixes: &[u8; 2048]) ->
 }
 
 // A block under a schedule. It is the one caller of `encrypt`, which is inlined only so.
-pub fn encrypt_block(b: [u8; 32], w: &[u32], table: &[u8; 256], mixes: &[u8; 2048]) -> [u8; 32]
-    requires { (length w.now ≡ 120) × ((table.now ≡ s_boxes) × (mixes.now ≡ products)) }
+pub fn encrypt_block(b: [u8; 32], w: &[u32; 120], table: &SBox, mixes: &ProductTable) -> [u8; 32]
     ensures { result ≡ to_block (encrypted w.now (to_state b)) }
 {
     to_block(encrypt(to_state(b), w, table, mixes))

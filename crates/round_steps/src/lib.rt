@@ -1,21 +1,19 @@
 // The steps of a round (the Rijndael proposal, 4.2), on a state of four rows by eight columns by value: loops over the columns.
 #![tactic(auto)]
 
-ghost use Rattle.std.specs.Prelude.{◌≡◌, ◌<◌, length};
-ghost use Rattle.gf256.specs.Field.{s_boxes};
+ghost use Rattle.std.specs.Prelude.{◌≡◌, ◌<◌};
 ghost use Rattle.round_steps.specs.Steps.{byte_sub, shift_row, add_round_key, final_round};
 
-use gf256::substituted;
+use gf256::SBox;
 use words::{byte0, byte1, byte2, byte3};
 
-fn byte_sub(s: [[u8; 8]; 4], table: &[u8; 256]) -> [[u8; 8]; 4]
-    requires { table.now ≡ s_boxes }
+fn byte_sub(s: [[u8; 8]; 4], table: &SBox) -> [[u8; 8]; 4]
     ensures { result ≡ byte_sub s }
 {
     let mut t = s;
     for r in 0..4 {
         for c in 0..8 {
-            t[r][c] = substituted(table, s[r][c]);
+            t[r][c] = table.substitute(s[r][c]);
         }
     }
     t
@@ -34,8 +32,8 @@ fn shift_row(s: [[u8; 8]; 4]) -> [[u8; 8]; 4]
     t
 }
 
-pub fn add_round_key(s: [[u8; 8]; 4], w: &[u32], n: usize) -> [[u8; 8]; 4]
-    requires { (length w.now ≡ 120) × (n < 15) }
+pub fn add_round_key(s: [[u8; 8]; 4], w: &[u32; 120], n: usize) -> [[u8; 8]; 4]
+    requires { n < 15 }
     ensures { result ≡ add_round_key w.now n s }
 {
     let mut t = s;
@@ -49,8 +47,8 @@ pub fn add_round_key(s: [[u8; 8]; 4], w: &[u32], n: usize) -> [[u8; 8]; 4]
     t
 }
 
-pub fn last_round(s: [[u8; 8]; 4], w: &[u32], n: usize, table: &[u8; 256]) -> [[u8; 8]; 4]
-    requires { (length w.now ≡ 120) × ((n < 15) × (table.now ≡ s_boxes)) }
+pub fn last_round(s: [[u8; 8]; 4], w: &[u32; 120], n: usize, table: &SBox) -> [[u8; 8]; 4]
+    requires { n < 15 }
     ensures { result ≡ final_round w.now n s }
 {
     add_round_key(shift_row(byte_sub(s, table)), w, n)

@@ -4,17 +4,17 @@
 mod mixed;
 pub mod packing;
 
-ghost use Rattle.std.specs.Prelude.{◌≡◌, ◌<◌, length};
-ghost use Rattle.products.specs.Products.{products};
+ghost use Rattle.std.specs.Prelude.{◌≡◌, ◌<◌};
 ghost use Rattle.round_steps.specs.Steps.{round_of};
 
 use mixed::mixed_word;
+use products::ProductTable;
 use words::{byte0, byte1, byte2, byte3};
 
 // The four steps at once, column by column: the lent table has what each byte adds to its mixed column. Columns 4 to 7 come first, since the compiler
 // then keeps more of the state in registers: a block takes some 4 % less.
-pub fn round(s: [[u8; 8]; 4], w: &[u32], n: usize, mixes: &[u8; 2048]) -> [[u8; 8]; 4]
-    requires { (length w.now ≡ 120) × ((n < 15) × (mixes.now ≡ products)) }
+pub fn round(s: [[u8; 8]; 4], w: &[u32; 120], n: usize, mixes: &ProductTable) -> [[u8; 8]; 4]
+    requires { n < 15 }
     ensures { result ≡ round_of w.now n s }
 {
     let mut t = s;

@@ -1,5 +1,5 @@
 // A state as eight words, a column each: between two rounds a word stands in a register, where four bytes would not.
-ghost use Rattle.std.specs.Prelude.{◌≡◌, [], ◌∷◌, length};
+ghost use Rattle.std.specs.Prelude.{◌≡◌, [], ◌∷◌};
 ghost use Rattle.words.specs.Words.{word_bytes};
 ghost use Rattle.round_steps.specs.Steps.{add_round_key};
 ghost use Rattle.rounds.specs.Columns.{of_words};
@@ -23,8 +23,7 @@ pub fn to_words(s: [[u8; 8]; 4]) -> [u32; 8]
 }
 
 // The same with the initial key: word by word, where `add_round_key` would go by bytes.
-pub fn keyed_words(s: [[u8; 8]; 4], w: &[u32]) -> [u32; 8]
-    requires { length w.now ≡ 120 }
+pub fn keyed_words(s: [[u8; 8]; 4], w: &[u32; 120]) -> [u32; 8]
     ensures { of_words result ≡ add_round_key w.now 0 s }
 {
     let mut x = [0u32; 8];

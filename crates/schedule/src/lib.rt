@@ -1,12 +1,11 @@
-// The key schedule with six key words (the Rijndael proposal, 4.3.1): 120 words of 32 bits in a lent slice, six words a turn.
+// The key schedule with six key words (the Rijndael proposal, 4.3.1): 120 words of 32 bits in a lent array, six words a turn.
 #![tactic(auto)]
 
-ghost use Rattle.std.specs.Prelude.{◌≡◌, List, ℕ, ◌<◌, ◌≤◌, ◌+◌, ◌-◌, ◌*◌, length, get_or};
+ghost use Rattle.std.specs.Prelude.{◌≡◌, List, ℕ, ◌<◌, ◌≤◌, ◌+◌, ◌-◌, ◌*◌, get_or};
 ghost use Rattle.laws.specs.Lists.{tabulate, Filled};
-ghost use Rattle.gf256.specs.Field.{s_boxes};
 ghost use Rattle.schedule.specs.Schedule.{rot_byte, sub_byte, round_constant, key_word};
 
-use gf256::substituted;
+use gf256::SBox;
 use words::{byte0, byte1, byte2, byte3, join_bytes};
 
 const ROUND_CONSTANTS: [u8; 19] = *b"\
@@ -20,20 +19,18 @@ fn round_constant(n: usize) -> u8
 }
 
 // A word turned by a byte, each byte through the S-box.
-fn substituted_word(x: u32, table: &[u8; 256]) -> u32
-    requires { table.now ≡ s_boxes }
+fn substituted_word(x: u32, table: &SBox) -> u32
     ensures { result ≡ sub_byte (rot_byte x) }
 {
     join_bytes(
-        substituted(table, byte1(x)),
-        substituted(table, byte2(x)),
-        substituted(table, byte3(x)),
-        substituted(table, byte0(x)),
+        table.substitute(byte1(x)),
+        table.substitute(byte2(x)),
+        table.substitute(byte3(x)),
+        table.substitute(byte0(x)),
     )
 }
 
-fn key_words(w: &mut [u32], key: [u8; 24])
-    requires { length w.old ≡ 120 }
+fn key_words(w: &mut [u32; 120], key: [u8; 24])
     ensures { Filled (key_word key) 0 120 w.new 6 }
 {
     for i in 0..6 {
@@ -43,9 +40,9 @@ fn key_words(w: &mut [u32], key: [u8; 24])
 
 // Words 6 k to 6 k + 5: whatever key the words below are of, these are of it too. `last` is word 6 k - 1, and the answer word 6 k + 5.
 // The sums of the old words are made first, so that all but one of the new ones wait for the first of them alone.
-fn six_words(w: &mut [u32], k: usize, last: u32, table: &[u8; 256]) -> u32
-    requires { (length w.old ≡ 120) × (((1 ≤ k) × (k < 20)) × ((last ≡ get_or w.old (6 * k - 1) 0) × (table.now ≡ s_boxes))) }
-    ensures { (length w.new ≡ 120) × ((result ≡ get_or w.new (6 * k + 5) 0) × ((key : List ℕ) → Filled (key_word key) 0 120 w.old (6 * k) → Filled (key_word key) 0 120 w.new (6 * k + 6))) }
+fn six_words(w: &mut [u32; 120], k: usize, last: u32, table: &SBox) -> u32
+    requires { (1 ≤ k) × (k < 20) × (last ≡ get_or w.old (6 * k - 1) 0) }
+    ensures { (result ≡ get_or w.new (6 * k + 5) 0) × ((key : List ℕ) → Filled (key_word key) 0 120 w.old (6 * k) → Filled (key_word key) 0 120 w.new (6 * k + 6)) }
 {
     let i = 6 * k;
     let x = w[i - 6] ^ (round_constant(k - 1) as u32) * 16777216;
@@ -65,9 +62,8 @@ fn six_words(w: &mut [u32], k: usize, last: u32, table: &[u8; 256]) -> u32
     f
 }
 
-fn more_words(w: &mut [u32], table: &[u8; 256])
-    requires { (length w.old ≡ 120) × (table.now ≡ s_boxes) }
-    ensures { (length w.new ≡ 120) × ((key : List ℕ) → Filled (key_word key) 0 120 w.old 6 → Filled (key_word key) 0 120 w.new 120) }
+fn more_words(w: &mut [u32; 120], table: &SBox)
+    ensures { (key : List ℕ) → Filled (key_word key) 0 120 w.old 6 → Filled (key_word key) 0 120 w.new 120 }
 {
     let mut last = w[5];
     for k in 1..20 {
@@ -76,8 +72,7 @@ fn more_words(w: &mut [u32], table: &[u8; 256])
 }
 
 // Fills the schedule of a key, for the blocks to come.
-pub fn expand_key(w: &mut [u32], key: [u8; 24], table: &[u8; 256])
-    requires { (length w.old ≡ 120) × (table.now ≡ s_boxes) }
+pub fn expand_key(w: &mut [u32; 120], key: [u8; 24], table: &SBox)
     ensures { w.new ≡ tabulate (key_word key) 0 120 }
 {
     key_words(w, key);

@@ -2,18 +2,14 @@
 use mathlib.Core.Path.{refl, ap, ◌∙◌}
 use mathlib.Core.List.{List}
 use Prim.Native.Nat.{ℕ, ◌%◌}
-use lib.ListN.{length, set}
-use Rattle.laws.proofs.Lists.{length-tabulate}
+use lib.ListN.{set}
 use Rattle.rijndael.specs.Cipher.{cipher, encrypted, to_block, to_state}
 use Rattle.tea.specs.Keystream.{block_of}
 use Rattle.keystream.proofs.make.Goals as goal
-
-pub encrypt_block-requires : goal.encrypt_block-requires
-encrypt_block-requires c = let pre = c.requires in (ap length pre.3.0 ∙ length-tabulate _ 0 120, pre.3.1)
 
 pub returns : goal.returns
 unfolding block_of cipher
 returns c =
     let a = c.args in
-    let block = c.encrypt_block.ensures ∙ (λ i. to_block (encrypted (c.requires.3.0 i) (to_state (c.plaintext.ensures i)))) in
+    let block = c.encrypt_block.ensures ∙ (λ i. to_block (encrypted (c.args.engine.now.keyed i) (to_state (c.plaintext.ensures i)))) in
     (refl, ap (λ (b : List ℕ). set a.kept.now (a.j % 2) b) block)

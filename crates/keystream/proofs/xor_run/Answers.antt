@@ -31,11 +31,11 @@ loop-done-init c =
 
 pub reach-made-requires : goal.reach-made-requires
 reach-made-requires c =
-    let some : 0 < c.piece-some.result =
-    omega (arith, c.piece-some.ensures)
+    let some : 0 < c.min-some.result =
+    omega (arith, c.min-some.ensures)
     in
-    let in_block : (c.args.p.skip + c.loop-done.done) % 256 + c.piece-some.result ≤ 256 =
-    omega (arith, c.piece-some.ensures)
+    let in_block : (c.args.p.skip + c.loop-done.done) % 256 + c.min-some.result ≤ 256 =
+    omega (arith, c.min-some.ensures)
     in
     let early : c.args.work.next ≤ c.args.p.skip / 256 + 1 =
     c.requires.2 (omega arith)
@@ -43,12 +43,12 @@ reach-made-requires c =
     let reachable : c.loop-done.made.next ≤ (c.args.p.skip + c.loop-done.done) / 256 + 1 =
     let a = c.args in
     let loop = c.loop-done in
-    next_small a.work.next a.p.skip loop.done c.piece-some.result in_block some loop.made.next loop.invariant.4 early
+    next_small a.work.next a.p.skip loop.done c.min-some.result in_block some loop.made.next loop.invariant.4 early
     in
     let pre = c.requires in
     let loop = c.loop-done in
     let streamed = pre.1.streamed in
-    (reachable, loop.invariant.6, omega (arith, streamed), loop.invariant.7, pre.5)
+    (reachable, loop.invariant.6, omega (arith, streamed), loop.invariant.7)
 
 pub overflow_add-start : goal.overflow_add-start
 overflow_add-start c =
@@ -57,12 +57,12 @@ overflow_add-start c =
 
 pub xor_block-requires : goal.xor_block-requires
 xor_block-requires c =
-    let in_block : (c.args.p.skip + c.loop-done.done) % 256 + c.piece-some.result ≤ 256 =
-    omega (arith, c.piece-some.ensures)
+    let in_block : (c.args.p.skip + c.loop-done.done) % 256 + c.min-some.result ≤ 256 =
+    omega (arith, c.min-some.ensures)
     in
     let inside = c.requires.1.inside in
     let loop = c.loop-done in
-    (omega (arith, inside, loop.invariant.0, loop.invariant.1, c.piece-some.ensures), in_block)
+    (omega (arith, inside, loop.invariant.0, loop.invariant.1, c.min-some.ensures), in_block)
 
 -- the blocks of the run so far, and then one more or none
 
@@ -72,11 +72,11 @@ later first blocks next next' m j e n h = rw (e, n, ← h) (add_assoc first (nex
 
 pub loop-done-preserved : goal.loop-done-preserved
 loop-done-preserved c =
-    let some : 0 < c.piece-some.result =
-    omega (arith, c.piece-some.ensures)
+    let some : 0 < c.min-some.result =
+    omega (arith, c.min-some.ensures)
     in
-    let in_block : (c.args.p.skip + c.loop-done.done) % 256 + c.piece-some.result ≤ 256 =
-    omega (arith, c.piece-some.ensures)
+    let in_block : (c.args.p.skip + c.loop-done.done) % 256 + c.min-some.result ≤ 256 =
+    omega (arith, c.min-some.ensures)
     in
     let early : c.args.work.next ≤ c.args.p.skip / 256 + 1 =
     c.requires.2 (omega arith)
@@ -84,20 +84,20 @@ loop-done-preserved c =
     let reachable : c.loop-done.made.next ≤ (c.args.p.skip + c.loop-done.done) / 256 + 1 =
     let a = c.args in
     let loop = c.loop-done in
-    next_small a.work.next a.p.skip loop.done c.piece-some.result in_block some loop.made.next loop.invariant.4 early
+    next_small a.work.next a.p.skip loop.done c.min-some.result in_block some loop.made.next loop.invariant.4 early
     in
     let a = c.args in
     let loop = c.loop-done in
-    let p = c.piece-some.result in
+    let p = c.min-some.result in
     let j = (c.args.p.skip + c.loop-done.done) / 256 in
     let e = c.reach-made.ensures.0 in
     let h = in_block in
     let next = ap (λ (r : Work). r.next) e ∙ at_next loop.made j in (
-      omega (arith, c.piece-some.ensures, loop.invariant.0),
+      omega (arith, c.min-some.ensures, loop.invariant.0),
       ap length c.xor_block.ensures ∙ length-xored _ _ _ _ _ ∙ loop.invariant.1,
       c.xor_block.ensures
-          ∙ (λ i. xored (loop.invariant.2 i) (bit_at (held_at a.mode j _ c.reach-made.ensures.1 i)) (a.p.start + loop.done) ((c.args.p.skip + c.loop-done.done) % 256) p)
-          ∙ xored-stretch (block_of a.mode) a.buf.now a.p.start a.p.skip loop.done p h,
+          ∙ (λ i. xored (loop.invariant.2 i) (bit_at (held_at a.engine.now.mode j _ c.reach-made.ensures.1 i)) (a.p.start + loop.done) ((c.args.p.skip + c.loop-done.done) % 256) p)
+          ∙ xored-stretch (block_of a.engine.now.mode) a.buf.now a.p.start a.p.skip loop.done p h,
       ap (λ (r : Work). r.schedules) e ∙ at-schedules loop.made j ∙ loop.invariant.3,
       next ∙ next-later a.work.next a.p.skip loop.done p h some,
       ap (λ (r : Work). r.blocks) e
@@ -105,7 +105,7 @@ loop-done-preserved c =
           ∙ later a.work.blocks loop.made.blocks loop.made.next c.reach-made.result.next _ _ loop.invariant.5 next
           (made-later a.work.next a.p.skip loop.done p h some loop.made.next loop.invariant.4 early),
       subst (λ (r : Work). r.blocks ≤ r.next) (sym e) (at-few loop.made j loop.invariant.6 reachable),
-      subst (λ (m : ℕ). Held a.mode m c.reach-made.new.kept) (sym next) c.reach-made.ensures.1,
+      subst (λ (m : ℕ). Held a.engine.now.mode m c.reach-made.new.kept) (sym next) c.reach-made.ensures.1,
     )
 
 pub returns : goal.returns

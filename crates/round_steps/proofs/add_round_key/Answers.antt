@@ -1,6 +1,5 @@
 -- `round_steps::add_round_key`: column by column, `Columns`. Assumes nothing.
 use mathlib.Core.Path.{ap}
-use Prim.Native.Nat.{◌-◌}
 use lib.Bits.{bit_xor}
 use Rattle.round_steps.specs.Steps.{add_round_key}
 use Rattle.laws.proofs.States.{columns-none, columns-more, columns-all, state-shape}

@@ -1,5 +1,4 @@
 -- `round_steps::byte_sub`: cell by cell. Assumes nothing.
-use Prim.Native.Nat.{◌-◌}
 use Rattle.round_steps.specs.Steps.{byte_sub}
 use Rattle.laws.proofs.States.{state-shape}
 use Rattle.laws.proofs.InRows.{in-rows-none, in-row-none, in-row-more, in-rows-more, in-rows-all}
@@ -15,7 +14,7 @@ loop-c-init c = in-row-none c.loop-r.invariant c.loop-r-test.true
 
 pub loop-c-preserved : goal.loop-c-preserved
 unfolding byte_sub
-loop-c-preserved c = in-row-more c.loop-c.invariant c.loop-c-test.true _ c.substituted.ensures
+loop-c-preserved c = in-row-more c.loop-c.invariant c.loop-c-test.true _ c.substitute.ensures
 
 pub loop-r-preserved : goal.loop-r-preserved
 unfolding byte_sub

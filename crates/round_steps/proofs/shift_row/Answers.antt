@@ -1,6 +1,5 @@
 -- `round_steps::shift_row`: column by column, `Columns`; row 0 is stored too, so that one law serves. Assumes nothing.
 use mathlib.Core.Path.{refl, ap}
-use Prim.Native.Nat.{◌-◌}
 use Rattle.round_steps.specs.Steps.{shift_row}
 use Rattle.laws.proofs.States.{columns-none, columns-more, columns-all, state-shape}
 use Rattle.laws.proofs.InRows.{not-turned}

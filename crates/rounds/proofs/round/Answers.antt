@@ -1,5 +1,4 @@
 -- `rounds::round`: column by column, `by_half`: each is its mixed word with the key. Assumes nothing.
-use Prim.Native.Nat.{◌-◌}
 use Rattle.laws.proofs.States.{place_none, state-shape}
 use Rattle.rounds.proofs.Columns.{small, fewer, round-more, round-all}
 use Rattle.rounds.proofs.round.Goals as goal

@@ -4,4 +4,4 @@ use Rattle.laws.proofs.Lists.{fill-all}
 use Rattle.schedule.proofs.expand_key.Goals as goal
 
 pub returns : goal.returns
-returns c = fill-all (c.more_words.ensures.1 _ c.key_words.ensures) (lit≤ tt)
+returns c = fill-all (c.more_words.ensures _ c.key_words.ensures) (lit≤ tt)

@@ -1,6 +1,5 @@
 -- `schedule::key_words`: `Filled` to 6. Assumes nothing.
 use mathlib.Core.Path.{◌∙◌}
-use Prim.Native.Nat.{◌-◌}
 use borrow.Author.Rules.{rules}
 use Rattle.schedule.specs.Schedule.{packed}
 use Rattle.laws.proofs.Lists.{fill_none, fill_more, fill-to}

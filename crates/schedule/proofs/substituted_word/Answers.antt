@@ -15,7 +15,7 @@ returns c =
     let h : x < 4294967296 = search rules in
     c.join_bytes.ensures
     ∙ (λ i. join
-    ((c.substituted.ensures ∙ ap s_box (c.byte1.ensures ∙ sym (turn-0 x h))) i)
-    ((c.substituted-2.ensures ∙ ap s_box (c.byte2.ensures ∙ sym (turn-1 x h))) i)
-    ((c.substituted-3.ensures ∙ ap s_box (c.byte3.ensures ∙ sym (turn-2 x h))) i)
-    ((c.substituted-4.ensures ∙ ap s_box (c.byte0.ensures ∙ sym (turn-3 x h))) i))
+    ((c.substitute.ensures ∙ ap s_box (c.byte1.ensures ∙ sym (turn-0 x h))) i)
+    ((c.substitute-2.ensures ∙ ap s_box (c.byte2.ensures ∙ sym (turn-1 x h))) i)
+    ((c.substitute-3.ensures ∙ ap s_box (c.byte3.ensures ∙ sym (turn-2 x h))) i)
+    ((c.substitute-4.ensures ∙ ap s_box (c.byte0.ensures ∙ sym (turn-3 x h))) i))

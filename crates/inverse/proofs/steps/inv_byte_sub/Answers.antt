@@ -15,7 +15,7 @@ loop-c-init c = in-row-none c.loop-r.invariant c.loop-r-test.true
 
 pub loop-c-preserved : goal.loop-c-preserved
 unfolding inv_byte_sub
-loop-c-preserved c = in-row-more c.loop-c.invariant c.loop-c-test.true _ c.inv_substituted.ensures
+loop-c-preserved c = in-row-more c.loop-c.invariant c.loop-c-test.true _ c.substitute.ensures
 
 pub loop-r-preserved : goal.loop-r-preserved
 unfolding inv_byte_sub

@@ -1,5 +1,4 @@
 -- `rounds::packing::from_words`: column by column, `Columns`. Assumes nothing.
-use Prim.Native.Nat.{◌-◌}
 use Rattle.laws.proofs.States.{columns-none, columns-more, columns-all, zero-shape}
 use Rattle.rounds.specs.Columns.{of_words}
 use Rattle.rounds.proofs.packing.from_words.Goals as goal

@@ -1,6 +1,5 @@
 -- `rounds::packing::keyed_words`: word by word, `Packed`. Assumes nothing.
 use mathlib.Core.Path.{refl}
-use Prim.Native.Nat.{◌-◌}
 use Rattle.round_steps.specs.Steps.{add_round_key}
 use Rattle.rounds.proofs.Columns.{pack-none, pack-all, keyed-more}
 use Rattle.rounds.proofs.packing.keyed_words.Goals as goal

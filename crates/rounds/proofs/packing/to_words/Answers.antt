@@ -1,6 +1,5 @@
 -- `rounds::packing::to_words`: word by word, `Packed`. Assumes nothing.
 use mathlib.Core.Path.{refl, ◌∙◌}
-use Prim.Native.Nat.{◌-◌}
 use Rattle.laws.proofs.States.{state-shape}
 use Rattle.rounds.proofs.Columns.{pack-none, pack-more, pack-all, own-cells}
 use Rattle.rounds.proofs.packing.to_words.Goals as goal
