@@ -1,32 +1,36 @@
 -- How many bytes of one kind a text begins with, and ends with. Assumes nothing.
 use mathlib.Core.Path.{◌≡◌, refl, sym, ap, ◌∙◌}
-use mathlib.Core.Bool.{Bool, true, false, ◌&&◌}
-use mathlib.Core.List.{List, [], ◌∷◌, ◌++◌}
+use mathlib.Core.Bool.{Bool, true, false, cond, ◌&&◌, ◌||◌}
+use mathlib.Core.Logic.{◌⊎◌, inl, inr}
+use mathlib.Core.List.{List, [], ◌∷◌, ◌++◌, reverse, reverse-reverse}
 use Prim.Native.Nat.{ℕ, suc, ◌+◌, ◌-◌, ◌≤◌, ◌<◌}
-use native.Mathlib.Numerals.{add-one}
+use native.Mathlib.Numerals.{one-add}
 use native.Mathlib.Omega.{arith}
-use lib.Dec.{eqb, ltb, eqb-zero-suc, eqb-suc-suc}
+use lib.Dec.{eqb, ltb, eqb-zero-suc, eqb-suc-suc, leb-suc-suc}
 use lib.ListN.{length, get_or, take, drop, length-append, drop_of_length-le}
-use lib.Seq.{drop-cons, take-suc, take-length}
-use borrow.Author.Tests.{eq-eqb, ne_eqb, ltb-true, lt-ltb, le-ltb}
+use lib.Seq.{drop-cons}
+use borrow.Author.Tests.{eq-eqb, ne_eqb, lt-ltb, le-ltb}
 use Rattle.laws.specs.Choice.{pick}
-use Rattle.laws.proofs.Cases.{and_left}
-use Rattle.lines.specs.Line.{space}
-use Rattle.line_parts.specs.Line.{ends_with, leading, trailing, before_equals, after_equals, is_spaced}
+use Rattle.laws.proofs.Cases.{eq-or-ne}
+use lib.Pointwise.{pointwise}
+use denote.Ref.{Bor}
+use Rattle.std.specs.Prelude.{Option, None, Some, unwrap_or, MatchOption}
+use Rattle.std.specs.Slice.{IsGetRangeResult}
+use Rattle.lines.proofs.Pieces.{rest-is}
+use Rattle.std.specs.List.{list_any, prefix_len, suffix_len}
+use Rattle.std.proofs.lemmas.Grind.{reverse_onto}
+use Rattle.lines.specs.Line.{space, index_of}
+use Rattle.line_parts.specs.Line.{cr, ends_with, leading, trailing, bare, before_equals, after_equals, is_spaced}
 
--- from the place i on
-module _ (b : ℕ) (s : List ℕ) (i : ℕ) where
-  pub leading_end : length s ≤ i → leading b (drop i s) ≡ 0
-  unfolding leading
-  leading_end h = rw (drop_of_length-le s h)
-
-  pub leading-other : i < length s → (get_or s i 0 ≡ b → ⊥) → leading b (drop i s) ≡ 0
-  unfolding leading
-  leading-other h n = rw (drop-cons s i 0 h, ne_eqb (get_or s i 0) b n)
-
-  pub leading-on : i < length s → get_or s i 0 ≡ b → leading b (drop i s) ≡ suc (leading b (drop (i + 1) s))
-  unfolding leading
-  leading-on h e = rw (add-one i, drop-cons s i 0 h, eq-eqb (get_or s i 0) b e)
+-- in std's words, from the front and from behind
+pub leading-prefix : (b : ℕ) (s : List ℕ) → prefix_len (λ x. eqb x b) s ≡ leading b s
+unfolding leading
+leading-prefix b [] = refl
+leading-prefix b (x ∷ s) = go (eqb x b) (leading-prefix b s)
+  where
+    go : (t : Bool) → prefix_len (λ y. eqb y b) s ≡ leading b s → cond t (1 + prefix_len (λ y. eqb y b) s) 0 ≡ pick t (suc (leading b s)) 0
+    go true h = one-add (prefix_len (λ y. eqb y b) s) ∙ ap suc h
+    go false h = refl
 
 pub leading-within : (b : ℕ) (s : List ℕ) → leading b s ≤ length s
 unfolding leading
@@ -65,39 +69,62 @@ trailing-on b (y ∷ s) x e =
     go true = refl
     go false = refl
 
--- of n bytes, the last i are passed
-module _ (b : ℕ) (s : List ℕ) (i : ℕ) where
-  before_last : i < length s → take (length s - i) s ≡ take (length s - (i + 1)) s ++ (get_or s (length s - 1 - i) 0 ∷ [])
-  before_last h =
-      let z : length s - i ≡ suc (length s - (i + 1)) = omega arith in
-      let y : length s - (i + 1) ≡ length s - 1 - i = omega arith in
-      ap (λ (n : ℕ). take n s) z ∙ take-suc s (length s - (i + 1)) 0 (omega arith)
-      ∙ ap (λ (k : ℕ). take (length s - (i + 1)) s ++ (get_or s k 0 ∷ [])) y
+pub trailing-suffix : (b : ℕ) (s : List ℕ) → suffix_len (λ x. eqb x b) s ≡ trailing b s
+unfolding trailing
+trailing-suffix b s = go (reverse s) ∙ ap (trailing b) (reverse-reverse s)
+  where
+    step : (x : ℕ) (t : List ℕ) → (x ≡ b) ⊎ (x ≡ b → ⊥) → prefix_len (λ y. eqb y b) t ≡ trailing b (reverse t)
+        → prefix_len (λ y. eqb y b) (x ∷ t) ≡ trailing b (reverse t ++ x ∷ [])
+    step x t (inl e) h = rw (eq-eqb x b e, trailing-on b (reverse t) x e) (one-add (prefix_len (λ y. eqb y b) t) ∙ ap suc h)
+    step x t (inr n) h = rw (ne_eqb x b n, trailing-other b (reverse t) x n)
 
-  pub last-other : i < length s → (get_or s (length s - 1 - i) 0 ≡ b → ⊥) → trailing b (take (length s - i) s) ≡ 0
-  last-other h n = rw (before_last h) (trailing-other b (take (length s - (i + 1)) s) (get_or s (length s - 1 - i) 0) n)
+    go : (t : List ℕ) → prefix_len (λ x. eqb x b) t ≡ trailing b (reverse t)
+    go [] = refl
+    go (x ∷ t) = rw (reverse_onto t x []) (step x t (eq-or-ne x b) (go t))
 
-  pub last_on : i < length s → get_or s (length s - 1 - i) 0 ≡ b → trailing b (take (length s - i) s) ≡ suc (trailing b (take (length s - (i + 1)) s))
-  last_on h e = rw (before_last h) (trailing-on b (take (length s - (i + 1)) s) (get_or s (length s - 1 - i) 0) e)
+-- a byte stands in a text before its end, or not at all
+pub contains-index : (b : ℕ) (s : List ℕ) → list_any (λ x. eqb x b) s ≡ ltb (index_of b s) (length s)
+unfolding index_of
+contains-index b [] = refl
+contains-index b (x ∷ s) = go (eqb x b) (contains-index b s)
+  where
+    go : (t : Bool) → list_any (λ y. eqb y b) s ≡ ltb (index_of b s) (length s)
+        → t || list_any (λ y. eqb y b) s ≡ ltb (pick t 0 (suc (index_of b s))) (suc (length s))
+    go true h = sym (lt-ltb 0 (suc (length s)) (omega arith))
+    go false h = h ∙ sym (leb-suc-suc (suc (index_of b s)) (length s))
 
-  pub last_none : length s ≤ i → trailing b (take (length s - i) s) ≡ 0
-  unfolding trailing
-  last_none h = let z : length s - i ≡ 0 = omega arith in ap (λ (n : ℕ). trailing b (take n s)) z
+-- the last byte, which std compares with a text of one
+last-byte : (s : List ℕ) → 0 < length s → drop (length s - 1) s ≡ get_or s (length s - 1) 0 ∷ []
+last-byte s h =
+    let k : length s - 1 < length s = omega arith in
+    let end : length s ≤ suc (length s - 1) = omega arith in
+    drop-cons s (length s - 1) 0 k ∙ ap (λ (t : List ℕ). get_or s (length s - 1) 0 ∷ t) (drop_of_length-le s end)
 
-pub last-all : (b : ℕ) (s : List ℕ) → trailing b s ≡ trailing b (take (length s - 0) s)
-last-all b s = let z : length s ≡ length s - 0 = omega arith in sym (ap (trailing b) (take-length s)) ∙ ap (λ (n : ℕ). trailing b (take n s)) z
+one-byte : (x b : ℕ) → (x ≡ b) ⊎ (x ≡ b → ⊥) → (eqb x b && true ≡ eqb x b) × (eqb b x && true ≡ eqb x b)
+one-byte x b (inl e) = rw (eq-eqb x b e, eq-eqb b x (sym e)) (refl, refl)
+one-byte x b (inr n) = rw (ne_eqb x b n, ne_eqb b x (λ e. n (sym e))) (refl, refl)
 
--- a text that ends with a byte is not empty
-pub ends_some : (b : ℕ) (s : List ℕ) → ends_with b s ≡ true → 1 ≤ length s
+pub ends-last : (b : ℕ) (s : List ℕ) → (pointwise eqb (drop (length s - 1) s) (b ∷ []) ≡ ends_with b s) × (pointwise eqb (b ∷ []) (drop (length s - 1) s) ≡ ends_with b s)
 unfolding ends_with
-ends_some b s e = ltb-true 0 (length s) (and_left _ _ e)
+ends-last b [] = (refl, refl)
+ends-last b (x ∷ s) =
+    let h : 0 < length (x ∷ s) = omega arith in
+    let last = get_or (x ∷ s) (length (x ∷ s) - 1) 0 in
+    rw (last-byte (x ∷ s) h, lt-ltb 0 (length (x ∷ s)) h) (one-byte last b (eq-or-ne last b))
 
--- nothing follows the end
-pub past_end : (s : List ℕ) (n : ℕ) → n ≡ length s → drop n s ≡ drop (suc n) s
-past_end s n e =
-    let h : length s ≤ n = omega arith in
-    let more : length s ≤ suc n = omega arith in
-    drop_of_length-le s h ∙ sym (drop_of_length-le s more)
+-- what `strip_suffix` leaves of a line
+pub bare-stripped : (line : Bor (List ℕ)) (r : Option (Bor (List ℕ)))
+    → MatchOption r (pointwise eqb (drop (length line.now - 1) line.now) (cr ∷ []) ≡ false) (λ x. (pointwise eqb (drop (length line.now - 1) line.now) (cr ∷ []) ≡ true) × (x.now ≡ take (length line.now - 1) line.now) × (length x.now + 1 ≡ length line.now))
+    → (unwrap_or r line).now ≡ bare line.now
+unfolding bare
+bare-stripped line None e = rw (sym (ends-last cr line.now).0 ∙ e)
+bare-stripped line (Some x) e = rw (sym (ends-last cr line.now).0 ∙ e.0) e.1
+
+-- what `get` finds from a place on
+pub part-from : (s : List ℕ) (n : ℕ) (r : Option (Bor (List ℕ))) (none : Bor (List ℕ)) → none.now ≡ [] → IsGetRangeResult s n (length s) r → (unwrap_or r none).now ≡ drop n s
+part-from s n None none e (inl h, _) = e ∙ sym (drop_of_length-le s (omega arith))
+part-from s n None none e (inr h, _) = absurd (omega arith)
+part-from s n (Some x) none e ((_, _, f, _), _) = f ∙ rest-is s n
 
 module _ (line : List ℕ) where
   pub spaced-before : 0 < trailing space (before_equals line) → is_spaced line ≡ true

@@ -17,66 +17,28 @@ const EQUALS: u8 = 61;
 pub fn ends_with(s: &[u8], b: u8) -> bool
     ensures { result ≡ ends_with b s.now }
 {
-    let n = s.len();
-    if n == 0 {
-        return false;
-    }
-    s[n - 1] == b
+    s.ends_with(&[b])
 }
 
 // How many bytes b a text begins with.
 pub fn leading(s: &[u8], b: u8) -> usize
     ensures { result ≡ leading b s.now }
 {
-    let mut i = 0;
-    while i < s.len() {
-        if s[i] != b {
-            return i;
-        }
-        i += 1;
-    }
-    i
+    s.iter().take_while(|x| **x == b).count()
 }
 
 // How many bytes b a text ends with.
 fn trailing(s: &[u8], b: u8) -> usize
     ensures { result ≡ trailing b s.now }
 {
-    let n = s.len();
-    let mut i = 0;
-    while i < n {
-        if s[n - 1 - i] != b {
-            return i;
-        }
-        i += 1;
-    }
-    i
-}
-
-// The first n bytes of a text.
-pub fn front(s: &[u8], n: usize) -> &[u8]
-    requires { n ≤ length s.now }
-    ensures { result.now ≡ take n s.now }
-{
-    &s[..n]
-}
-
-// What follows the first n bytes of a text.
-pub fn rest(s: &[u8], n: usize) -> &[u8]
-    requires { n ≤ length s.now }
-    ensures { result.now ≡ drop n s.now }
-{
-    &s[n..]
+    s.iter().rev().take_while(|x| **x == b).count()
 }
 
 // The line without the CR before its LF.
 fn bare(line: &[u8]) -> &[u8]
     ensures { result.now ≡ bare line.now }
 {
-    if ends_with(line, CR) {
-        return front(line, line.len() - 1);
-    }
-    line
+    line.strip_suffix(&[CR]).unwrap_or(line)
 }
 
 // What stands before the first `=`, or the whole line where there is none.
@@ -85,7 +47,7 @@ fn before_equals(line: &[u8]) -> &[u8]
 {
     let whole = bare(line);
     let n = index_of(whole, EQUALS);
-    front(whole, n)
+    &whole[..n]
 }
 
 // What stands after the first `=`, or nothing.
@@ -94,18 +56,14 @@ fn after_equals(line: &[u8]) -> &[u8]
 {
     let whole = bare(line);
     let n = index_of(whole, EQUALS);
-    if n == whole.len() {
-        return rest(whole, n);
-    }
-    rest(whole, n + 1)
+    whole.get(n + 1..).unwrap_or(&[])
 }
 
 // Does a line have a `=`?
 fn has_equals(line: &[u8]) -> bool
     ensures { result ≡ has_equals line.now }
 {
-    let whole = bare(line);
-    index_of(whole, EQUALS) < whole.len()
+    bare(line).contains(&EQUALS)
 }
 
 // The name of a line: nothing where it has no `=`.
@@ -114,10 +72,10 @@ pub fn name_in(line: &[u8]) -> &[u8]
 {
     let before = before_equals(line);
     if !has_equals(line) {
-        return front(before, 0);
+        return &[];
     }
     let spaces = trailing(before, SPACE);
-    front(before, before.len() - spaces)
+    &before[..before.len() - spaces]
 }
 
 // The value of a line.
@@ -126,17 +84,12 @@ pub fn value_in(line: &[u8]) -> &[u8]
 {
     let after = after_equals(line);
     let spaces = leading(after, SPACE);
-    rest(after, spaces)
+    &after[spaces..]
 }
 
 // Do spaces stand beside the `=`?
 pub fn is_spaced(line: &[u8]) -> bool
     ensures { result ≡ is_spaced line.now }
 {
-    let before = trailing(before_equals(line), SPACE);
-    let after = leading(after_equals(line), SPACE);
-    if 0 < before {
-        return true;
-    }
-    0 < after
+    0 < trailing(before_equals(line), SPACE) || 0 < leading(after_equals(line), SPACE)
 }

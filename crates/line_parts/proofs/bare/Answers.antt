@@ -1,16 +1,8 @@
--- `line_parts::bare`: by the last byte. Assumes nothing.
-use mathlib.Core.Path.{sym, ◌∙◌}
-use Rattle.line_parts.specs.Line.{cr, ends_with, bare}
-use Rattle.line_parts.proofs.Counts.{ends_some}
+-- `line_parts::bare`: what is left without the CR. Assumes nothing.
+use Rattle.std.proofs.Common.{ap, ◌∙◌, List, ℕ}
+use denote.Ref.{Bor}
+use Rattle.line_parts.proofs.Counts.{bare-stripped}
 use Rattle.line_parts.proofs.bare.Goals as goal
 
-pub overflow_sub-line : goal.overflow_sub-line
-overflow_sub-line c = ends_some cr _ (sym c.ends_with.ensures ∙ c.if-ends_with.true)
-
-pub returns-then-ends_with : goal.returns-then-ends_with
-unfolding bare
-returns-then-ends_with c = rw (sym c.ends_with.ensures ∙ c.if-ends_with.true) c.front.ensures
-
 pub returns : goal.returns
-unfolding bare
-returns c = rw (sym c.ends_with.ensures ∙ c.if-ends_with.false)
+returns c = ap (λ (r : Bor (List ℕ)). r.now) c.unwrap_or.ensures ∙ bare-stripped c.args.line c.strip_suffix.result c.strip_suffix.ensures.cases

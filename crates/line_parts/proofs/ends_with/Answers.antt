@@ -1,14 +1,7 @@
--- `line_parts::ends_with`: by the length, and then by the last byte. Assumes nothing.
-use native.Mathlib.Omega.{arith}
-use lib.ListN.{length}
-use borrow.Author.Tests.{lt-ltb, le-ltb}
-use Rattle.line_parts.specs.Line.{ends_with}
+-- `line_parts::ends_with`: the last byte, as std compares it. Assumes nothing.
+use Rattle.std.proofs.Common.{◌∙◌}
+use Rattle.line_parts.proofs.Counts.{ends-last}
 use Rattle.line_parts.proofs.ends_with.Goals as goal
 
-pub returns-then-n-eq0 : goal.returns-then-n-eq0
-unfolding ends_with
-returns-then-n-eq0 c = rw (le-ltb 0 (length c.args.s.now) (omega arith))
-
 pub returns : goal.returns
-unfolding ends_with
-returns c = rw (lt-ltb 0 (length c.args.s.now) (omega arith))
+returns c = c.ends_with.ensures.value ∙ (ends-last c.args.b c.args.s.now).1

@@ -1,14 +1,16 @@
--- `line_parts::leading`: how many there are stays the same with each byte passed. Assumes nothing.
-use Prim.Native.Nat.{◌-◌}
-use native.Mathlib.Omega.{arith}
-use Rattle.line_parts.proofs.Counts.{leading_end, leading-other, leading-on}
+-- `line_parts::leading`: how many bytes `take_while` gives. Assumes nothing.
+use Rattle.std.proofs.Common.{ℕ, ◌∙◌, eqb, rules, tests}
+use Rattle.std.proofs.lemmas.Iterator.{YieldsList-from_slice}
+use Rattle.std.proofs.lemmas.Iterator.Consumers.{count_from_yields_List}
+use Rattle.std.proofs.lemmas.Iterator.Search.{YieldsList-from_take_while}
+use Rattle.std.proofs.lemmas.List.Folds.{length-prefix_len}
+use Rattle.line_parts.proofs.Counts.{leading-prefix}
 use Rattle.line_parts.proofs.leading.Goals as goal
 
-pub returns-then-s-i : goal.returns-then-s-i
-returns-then-s-i c = omega (arith, leading-other _ c.args.s.now _ c.loop-i-test.true c.if-s-i.true)
-
-pub loop-i-preserved : goal.loop-i-preserved
-loop-i-preserved c = omega (arith, leading-on _ c.args.s.now _ c.loop-i-test.true c.if-s-i.false)
-
 pub returns : goal.returns
-returns c = omega (arith, leading_end c.args.b c.args.s.now _ c.loop-i-test.false)
+returns c =
+    let is_b = λ (x : ℕ). eqb x c.args.b in
+    count_from_yields_List c.take_while.result _ c.count.ensures.ran
+    (YieldsList-from_take_while _ is_b (YieldsList-from_slice c.args.s.now cc) c.take_while.ensures.closure c.take_while.ensures.done (λ x b q k. search (rules, tests)))
+    ∙ length-prefix_len is_b c.args.s.now
+    ∙ leading-prefix c.args.b c.args.s.now

@@ -1,20 +1,16 @@
--- `line_parts::trailing`: how many there are stays the same with each byte passed from the end. Assumes nothing.
-use mathlib.Core.Path.{refl}
-use Prim.Native.Nat.{◌-◌}
-use native.Mathlib.Omega.{arith}
-use Rattle.line_parts.proofs.Counts.{last-all, last-other, last_on, last_none}
+-- `line_parts::trailing`: how many bytes `take_while` gives from behind. Assumes nothing.
+use Rattle.std.proofs.Common.{ℕ, ◌∙◌, eqb, reverse, rules, tests}
+use Rattle.std.proofs.lemmas.Iterator.Adapters.{YieldsList-from_rev_slice}
+use Rattle.std.proofs.lemmas.Iterator.Consumers.{count_from_yields_List, YieldsList-at}
+use Rattle.std.proofs.lemmas.Iterator.Search.{YieldsList-from_take_while}
+use Rattle.std.proofs.lemmas.List.Folds.{length-prefix_len}
+use Rattle.line_parts.proofs.Counts.{trailing-suffix}
 use Rattle.line_parts.proofs.trailing.Goals as goal
 
-pub loop-i-init : goal.loop-i-init
-loop-i-init c = (refl, omega (arith, last-all c.args.b c.args.s.now))
-
-pub returns-then-s-n : goal.returns-then-s-n
-returns-then-s-n c =
-    omega (arith, last-other c.args.b c.args.s.now c.loop-i.i c.loop-i-test.true c.if-s-n.true)
-
-pub loop-i-preserved : goal.loop-i-preserved
-loop-i-preserved c =
-    (refl, omega (arith, last_on c.args.b c.args.s.now c.loop-i.i c.loop-i-test.true c.if-s-n.false))
-
 pub returns : goal.returns
-returns c = omega (arith, last_none c.args.b c.args.s.now c.loop-i.i c.loop-i-test.false)
+returns c =
+    let is_b = λ (x : ℕ). eqb x c.args.b in
+    count_from_yields_List c.take_while.result _ c.count.ensures.ran
+    (YieldsList-from_take_while _ is_b (YieldsList-at c.take_while.ensures.source (YieldsList-from_rev_slice c.args.s.now (cc))) c.take_while.ensures.closure c.take_while.ensures.done (λ x b q k. search (rules, tests)))
+    ∙ length-prefix_len is_b (reverse c.args.s.now)
+    ∙ trailing-suffix c.args.b c.args.s.now
