@@ -1,8 +1,10 @@
 -- The names of a record's lines, by their numbers in the order of form 2. Assumes nothing: these are definitions.
-use Rattle.std.specs.Prelude.{Bool, true, false, not, ◌&&◌, List, [], ◌∷◌, ℕ, zero, suc, ◌+◌, eqb, ltb, get_or}
+use Rattle.std.specs.Prelude.{Bool, true, false, not, ◌&&◌, List, [], ◌∷◌, ℕ, zero, suc, ◌+◌, eqb, ltb, get_or, Option, Some, None}
 use Rattle.laws.specs.Choice.{pick}
 use Rattle.writing.specs.Text.{ascii}
 use Rattle.line_parts.specs.Line.{name_in}
+use Rattle.line_names.specs.declared.Name.{Name}
+use Rattle.line_names.specs.declared.Name.TheVariants.{Form, Number, Version, Alg, Use, Side, Place, Mcc, Mnc, Key}
 
 abbrev pub name_texts : List (List ℕ)
 name_texts =
@@ -60,3 +62,21 @@ is_decimal k = not (eqb k alg_name) && (not (eqb k use_name) && not (eqb k key_n
 -- a form has a name: form 2 all ten, form 1 neither `form` nor the network codes
 unfoldable pub has_name : Bool → ℕ → Bool
 has_name two k = pick (eqb k form_name) two (pick (eqb k mcc_name) two (pick (eqb k mnc_name) two (ltb k name_count)))
+
+-- the number of a name in the order of form 2
+abbrev pub number_of : Name → ℕ
+number_of Form = 0
+number_of Number = 1
+number_of Version = 2
+number_of Alg = 3
+number_of Use = 4
+number_of Side = 5
+number_of Place = 6
+number_of Mcc = 7
+number_of Mnc = 8
+number_of Key = 9
+
+-- the number of the name that a line has, or 10
+abbrev pub number_found : Option Name → ℕ
+number_found None = name_count
+number_found (Some name) = number_of name
