@@ -1,30 +1,23 @@
--- Upper-case hex digits in a text. Assumes nothing.
-use mathlib.Core.Path.{◌≡◌}
-use mathlib.Core.Bool.{true, false}
-use mathlib.Core.List.{List}
-use Prim.Native.Nat.{ℕ, ◌+◌, ◌≤◌, ◌<◌}
-use native.Mathlib.Numerals.{add-one}
-use lib.Dec.{leb}
-use lib.ListN.{length, get_or, drop, drop_of_length-le}
-use lib.Seq.{drop-cons}
-use borrow.Author.Tests.{leb-true}
-use Rattle.laws.proofs.Cases.{and_right}
+-- Upper-case hex digits in a text, and what a name says of zeros. Assumes nothing.
+use mathlib.Core.Path.{◌≡◌, refl, ap}
+use mathlib.Core.Bool.{Bool, ◌||◌}
+use mathlib.Core.List.{List, [], ◌∷◌}
+use Prim.Native.Nat.{ℕ}
+use Rattle.std.specs.Prelude.{Option, None, Some, MatchOption, IsTrue}
+use Rattle.std.specs.List.{list_any}
+use Rattle.std.proofs.Common.{rules}
+use Rattle.line_names.specs.declared.Name.{Name}
+use Rattle.line_names.specs.Names.{is_decimal, number_of, number_found}
 use Rattle.line_faults.specs.Faults.{is_upper_hex, any_upper_hex}
 
--- from the place i on
-module _ (s : List ℕ) (i : ℕ) where
-  pub upper-end : length s ≤ i → any_upper_hex (drop i s) ≡ false
-  unfolding any_upper_hex
-  upper-end h = rw (drop_of_length-le s h)
+-- what `any` answers
+pub upper-any : (s : List ℕ) → list_any is_upper_hex s ≡ any_upper_hex s
+unfolding any_upper_hex
+upper-any [] = refl
+upper-any (b ∷ s) = ap (λ (t : Bool). is_upper_hex b || t) (upper-any s)
 
-  pub upper-here : i < length s → is_upper_hex (get_or s i 0) ≡ true → any_upper_hex (drop i s) ≡ true
-  unfolding any_upper_hex
-  upper-here h e = rw (drop-cons s i 0 h, e)
-
-  pub upper-on : i < length s → is_upper_hex (get_or s i 0) ≡ false → any_upper_hex (drop i s) ≡ any_upper_hex (drop (i + 1) s)
-  unfolding any_upper_hex
-  upper-on h e = rw (add-one i, drop-cons s i 0 h, e)
-
-pub upper-most : (b : ℕ) → is_upper_hex b ≡ true → b ≤ 70
-unfolding is_upper_hex
-upper-most b e = leb-true b 70 (and_right (leb 65 b) (leb b 70) e)
+-- what `is_none_or` answers: under no name a value counts as a number
+pub decimal-found : (P : Name → Type 0) (name : Option Name) (t : Bool) → MatchOption name (IsTrue t) P → ((k : Name) → P k → t ≡ is_decimal (number_of k)) → t ≡ is_decimal (number_found name)
+unfolding is_decimal
+decimal-found P None t h f = search rules
+decimal-found P (Some k) t h f = f k h

@@ -1,12 +1,15 @@
 -- `line_faults::zeros_dropped`: by the name. Assumes nothing.
-use mathlib.Core.Path.{sym, ◌∙◌}
+use Rattle.std.proofs.Common.{sym, ◌∙◌, rules}
 use Rattle.line_faults.specs.Faults.{zeros_dropped}
+use Rattle.line_faults.proofs.Hexes.{decimal-found}
 use Rattle.line_faults.proofs.zeros_dropped.Goals as goal
 
-pub returns-then-is_decimal : goal.returns-then-is_decimal
+pub returns-then-is_none_or : goal.returns-then-is_none_or
 unfolding zeros_dropped
-returns-then-is_decimal c = rw (sym c.is_decimal.ensures ∙ c.if-is_decimal.true) c.zeros_in.ensures
+returns-then-is_none_or c =
+    rw (sym (decimal-found _ c.args.name _ c.is_none_or.ensures (λ k h. search rules)) ∙ c.if-is_none_or.true) c.zeros_in.ensures
 
-pub returns : goal.returns
+pub returns-else-is_none_or : goal.returns-else-is_none_or
 unfolding zeros_dropped
-returns c = rw (sym c.is_decimal.ensures ∙ c.if-is_decimal.false)
+returns-else-is_none_or c =
+    rw (sym (decimal-found _ c.args.name _ c.is_none_or.ensures (λ k h. search rules)) ∙ c.if-is_none_or.false)
