@@ -1,7 +1,7 @@
 // The names of a record's lines, in the order of form 2.
 #![tactic(auto)]
 
-ghost use Rattle.std.specs.Prelude.{◌≡◌};
+ghost use Rattle.std.specs.Prelude.{◌≡◌, eqb};
 ghost use Rattle.line_names.specs.Names.{name_text, number_in, is_decimal, has_name, number_of, number_found};
 
 use line_parts::name_in;
@@ -81,4 +81,18 @@ pub fn name_of(line: &[u8]) -> Option<Name>
 {
     let name = name_in(line);
     NAMES.iter().copied().find(|known| name == known.text())
+}
+
+// Has a line this name, or none at `None`?
+pub fn is_named(line: &[u8], name: Option<Name>) -> bool
+    ensures { result ≡ eqb (number_in line.now) (number_found name) }
+{
+    name_of(line) == name
+}
+
+// The place of a line's name in the order of form 2, counted from 0: the eleventh, where no record has it.
+pub fn place_of(line: &[u8]) -> usize
+    ensures { result ≡ number_in line.now }
+{
+    name_of(line).map_or(NAMES.len(), |name| name as usize)
 }
