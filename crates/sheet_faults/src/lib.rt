@@ -1,103 +1,76 @@
 // The lines of a damaged record sheet (document 02, [12]): which names they have, in which order, and when that is refused with 25.
 #![tactic(auto)]
 
-ghost use Rattle.std.specs.Prelude.{◌≡◌, ◌+◌, ◌<◌, ◌≤◌, eqb, length, drop};
+ghost use Rattle.std.specs.Prelude.{◌≡◌, eqb};
+ghost use Rattle.std.specs.Iterator.{YieldsFirstRef, item_count};
 ghost use Rattle.laws.specs.Choice.{pick};
-ghost use Rattle.writing.specs.Text.{lf};
-ghost use Rattle.lines.specs.Line.{up_to, piece_length};
-ghost use Rattle.line_names.specs.Names.{has_name};
+ghost use Rattle.line_names.specs.Names.{has_name, number_of, number_found};
 ghost use Rattle.sheet_faults.specs.Sheet.{lines_of, times_named, is_form_two, value_named, any_fault, in_order_from, names_right, sheet_bad};
 
 use line_faults::{Fault, has_fault};
-use line_names::{has_name, number_in};
-use line_parts::{ends_with, front, rest, value_in};
+use line_names::{NAMES, Name, is_named, place_of};
+use line_parts::{ends_with, value_in};
 use lines::{index_of, piece_length};
 
 // The bytes of a text, at most.
 pub const MOST: usize = 4096;
 
-const LF: u8 = 10;
+const LF: u8 = b'\n';
 
-// The line that begins at a place.
-fn line_at(text: &[u8], at: usize) -> &[u8]
-    requires { at ≤ length text.now }
-    ensures { result.now ≡ up_to lf (drop at text.now) }
-{
-    let s = rest(text, at);
-    let n = index_of(s, LF);
-    front(s, n)
+// The lines of a text, each without the LF that ends it. (What follows the last LF is a line too.)
+#[derive(Drop)]
+struct Lines<'a> {
+    rest: &'a [u8],
 }
 
-// Where the line after it begins.
-fn next_line(text: &[u8], at: usize) -> usize
-    requires { at < length text.now }
-    ensures { (result ≡ at + piece_length lf (drop at text.now)) × (at < result) × (result ≤ length text.now) }
-{
-    let s = rest(text, at);
-    at + piece_length(s, LF)
-}
+impl<'a> Iterator for Lines<'a> {
+    type Item = &'a [u8];
 
-fn one_if(test: bool) -> usize
-    ensures { result ≡ pick test 1 0 }
-{
-    if test {
-        return 1;
+    ghost next_gives = { YieldsFirstRef (λ s. lines_of s.rest.now) };
+
+    ghost remaining = { item_count (λ s. lines_of s.rest.now) };
+
+    fn next(&mut self) -> Option<&'a [u8]> {
+        let rest = self.rest;
+        if rest.is_empty() {
+            return None;
+        }
+        self.rest = &rest[piece_length(rest, LF)..];
+        Some(&rest[..index_of(rest, LF)])
     }
-    0
 }
 
-// How many lines have the name of number k.
-fn times_named(text: &[u8], k: usize) -> usize
-    ensures { result ≡ times_named k (lines_of text.now) }
+// How many lines have a name, or none at `None`.
+fn times_named(text: &[u8], name: Option<Name>) -> usize
+    ensures { result ≡ times_named (number_found name) (lines_of text.now) }
 {
-    let mut times = 0;
-    let mut at = 0;
-    while at < text.len() {
-        let line = line_at(text, at);
-        times += one_if(number_in(line) == k);
-        let next = next_line(text, at);
-        at = next;
-    }
-    times
+    Lines { rest: text }
+        .filter(|line| is_named(line, name))
+        .count()
 }
 
 // A `form` line, good or bad, means form 2.
+#[tactic(auto, unfolding(crate::specs::Sheet::is_form_two))]
 pub fn is_form_two(text: &[u8]) -> bool
     ensures { result ≡ is_form_two (lines_of text.now) }
 {
-    0 < times_named(text, 0)
+    0 < times_named(text, Some(Name::Form))
 }
 
 // The value of the first line of a name, or nothing.
-pub fn value_named(text: &[u8], k: usize) -> &[u8]
-    ensures { result.now ≡ value_named k (lines_of text.now) }
+pub fn value_named(text: &[u8], name: Name) -> &[u8]
+    ensures { result.now ≡ value_named (number_of name) (lines_of text.now) }
 {
-    let mut at = 0;
-    while at < text.len() {
-        let line = line_at(text, at);
-        if number_in(line) == k {
-            return value_in(line);
-        }
-        let next = next_line(text, at);
-        at = next;
-    }
-    rest(text, text.len())
+    Lines { rest: text }
+        .find(|line| is_named(line, Some(name)))
+        .map_or(&[], |line| value_in(line))
 }
 
 // Does some line have a fault?
 pub fn any_fault(text: &[u8], fault: Fault) -> bool
     ensures { result ≡ any_fault fault (lines_of text.now) }
 {
-    let mut at = 0;
-    while at < text.len() {
-        let line = line_at(text, at);
-        if has_fault(line, fault) {
-            return true;
-        }
-        let next = next_line(text, at);
-        at = next;
-    }
-    false
+    Lines { rest: text }.any(|line| has_fault(line, fault))
 }
 
 // Do the names stand in the form's order?
@@ -105,24 +78,21 @@ pub fn in_order(text: &[u8]) -> bool
     ensures { result ≡ in_order_from 0 (lines_of text.now) }
 {
     let mut least = 0;
-    let mut at = 0;
-    while at < text.len() {
-        let k = number_in(line_at(text, at));
-        if k < least {
+    for line in (Lines { rest: text }) {
+        let place = place_of(line);
+        if place < least {
             return false;
         }
-        least = k + 1;
-        let next = next_line(text, at);
-        at = next;
+        least = place + 1;
     }
     true
 }
 
 // Does a name that the form has stand in one line, or any other in none?
-fn is_named_right(text: &[u8], two: bool, k: usize) -> bool
-    ensures { result ≡ eqb (times_named k (lines_of text.now)) (pick (has_name two k) 1 0) }
+fn is_named_right(text: &[u8], two: bool, name: Name) -> bool
+    ensures { result ≡ eqb (times_named (number_of name) (lines_of text.now)) (pick (has_name two (number_of name)) 1 0) }
 {
-    times_named(text, k) == one_if(has_name(two, k))
+    times_named(text, Some(name)) == usize::from(name.is_in(two))
 }
 
 // Is no name missing, doubled, or unknown for the form?
@@ -130,25 +100,13 @@ fn names_right(text: &[u8]) -> bool
     ensures { result ≡ names_right (lines_of text.now) }
 {
     let two = is_form_two(text);
-    let mut k = 0;
-    while k <= line_names::NAMES {
-        if !is_named_right(text, two, k) {
-            return false;
-        }
-        k += 1;
-    }
-    true
+    NAMES.iter().all(|name| is_named_right(text, two, *name)) && times_named(text, None) == 0
 }
 
 // Is a text refused with 25?
+#[tactic(auto, unfolding(crate::specs::Sheet::sheet_bad))]
 pub fn sheet_bad(text: &[u8]) -> bool
     ensures { result ≡ sheet_bad text.now }
 {
-    if MOST < text.len() {
-        return true;
-    }
-    if !ends_with(text, LF) {
-        return true;
-    }
-    !names_right(text)
+    MOST < text.len() || !ends_with(text, LF) || !names_right(text)
 }

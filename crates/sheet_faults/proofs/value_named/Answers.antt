@@ -1,31 +1,19 @@
--- `sheet_faults::value_named`: what is to be answered stays the same with each line. Assumes nothing.
-use mathlib.Core.Path.{refl, sym, ap, ◌∙◌}
-use Prim.Native.Nat.{◌-◌}
-use native.Mathlib.Omega.{arith}
-use lib.Seq.{drop-length}
-use Rattle.sheet_faults.specs.Sheet.{value_named}
-use Rattle.sheet_faults.proofs.Lines.{lines_end, value-here, value_on}
+-- `sheet_faults::value_named`: by what `find` finds. Assumes nothing.
+use Rattle.std.proofs.Common.{ap, ◌∙◌, refl, rules, tests, eqb}
+use Rattle.std.proofs.lemmas.Iterator.Consumers.{YieldsList-from_first}
+use Rattle.std.proofs.lemmas.Iterator.Search.{find_from_yields_List}
+use Rattle.line_names.specs.Names.{number_in, number_of}
+use Rattle.sheet_faults.specs.declared.Lines.{Lines}
+use Rattle.sheet_faults.specs.Sheet.{lines_of}
+use Rattle.sheet_faults.proofs.Walk.{value_found, value-find, value-of}
 use Rattle.sheet_faults.proofs.value_named.Goals as goal
 
-pub returns-then-number_in-k : goal.returns-then-number_in-k
-returns-then-number_in-k c =
-    c.value_in.ensures
-    ∙ sym (c.loop-at.invariant.1
-    ∙ value-here _ _ c.loop-at-test.true c.line_at-line.ensures (sym c.number_in.ensures ∙ c.if-number_in-k.true))
-
-pub loop-at-preserved : goal.loop-at-preserved
-loop-at-preserved c = (
-  c.next_line-next.ensures.2,
-  c.loop-at.invariant.1
-      ∙ value_on _ _ c.loop-at-test.true c.line_at-line.ensures c.next_line-next.ensures.0 (λ e. c.if-number_in-k.false (c.number_in.ensures ∙ e)),
-)
-
 pub returns : goal.returns
-unfolding value_named
 returns c =
-    let args = c.args in
-    c.rest.ensures ∙ drop-length args.text.now
-    ∙ sym (c.loop-at.invariant.1 ∙ ap (value_named args.k) (lines_end args.text.now c.loop-at.at c.loop-at-test.false))
-
-pub loop-at-init : goal.loop-at-init
-loop-at-init c = (omega arith, refl)
+    let first = find_from_yields_List (λ line. eqb (number_in line) (number_of c.args.name)) c.find.new.self _ c.find.result c.find.ensures.ran
+    (YieldsList-from_first (λ l. l.now) (λ (s : Lines). lines_of s.rest.now) (lines_of c.args.text.now) refl)
+    (λ x b q k. search (rules, tests))
+    in
+    value-of _ c.find.result _ _ c.map_or.ensures refl (λ line h. search rules)
+    ∙ ap value_found first
+    ∙ value-find (number_of c.args.name) (lines_of c.args.text.now)
