@@ -1,6 +1,6 @@
 -- `mended_text::put_line`: the name, the value, LF. Assumes nothing.
 use mathlib.Core.Path.{sym}
-use Rattle.writing.proofs.Puts.{put_as, put_then, put-length, room_as, room-first, room-then}
+use Rattle.writing.proofs.Puts.{put_as, put_then, room_as, room-first, room-then}
 use Rattle.mended_text.proofs.Laws.{line-parts}
 use Rattle.mended_text.proofs.put_line.Goals as goal
 
@@ -18,6 +18,3 @@ put_bytes-requires c =
 pub returns : goal.returns
 returns c =
     put_as (sym (line-parts _ _ _)) (put_then c.put_name-value.ensures (put_then c.put_value-end.ensures c.put_bytes.ensures))
-
-pub shape_of-buffer : goal.shape_of-buffer
-shape_of-buffer c = put-length (returns c)

@@ -1,6 +1,6 @@
 -- `mended_text::put_lowered`: what is to be left stays the same with each byte. Assumes nothing.
 use mathlib.Core.Path.{◌≡◌}
-use Prim.Native.Nat.{◌≤◌, ◌-◌, ◌+◌}
+use Prim.Native.Nat.{◌+◌}
 use lib.ListN.{length, drop}
 use lib.Seq.{sets}
 use Rattle.mended_text.specs.Text.{lowered}
@@ -8,7 +8,4 @@ use Rattle.mended_text.proofs.put_lowered.Given as goal
 
 abbrev pub invariant-loop-i : goal.invariant-loop-i
 invariant-loop-i l =
-    (l.i ≤ length l.bytes) × (length l.buffer ≡ length l.initial.buffer) × (sets l.initial.buffer l.at (lowered l.bytes) ≡ sets l.buffer (l.at + l.i) (drop l.i (lowered l.bytes)))
-
-abbrev pub decreases-loop-i : goal.decreases-loop-i
-decreases-loop-i l = length l.bytes - l.i
+    (length l.buffer ≡ length l.initial.buffer) × (sets l.initial.buffer l.at (lowered l.bytes) ≡ sets l.buffer (l.at + l.i) (drop l.i (lowered l.bytes)))
