@@ -1,12 +1,13 @@
 -- How long the changes are, and what a mended sheet takes. Assumes nothing.
-use mathlib.Core.Path.{◌≡◌, refl}
+use mathlib.Core.Path.{◌≡◌, refl, sym, ap}
 use mathlib.Core.Bool.{Bool, true, false, not}
 use mathlib.Core.List.{List, [], ◌∷◌, ◌++◌}
 use Prim.Native.Nat.{ℕ, ◌+◌, ◌≤◌}
 use native.Mathlib.Omega.{arith}
 use lib.ListN.{length, length-append}
-use Rattle.laws.specs.Choice.{pick}
 use Rattle.writing.specs.Text.{ascii, lf}
+use Rattle.writing.specs.Writing.{Room, Put}
+use Rattle.writing.proofs.Puts.{put_as, room_as}
 use Rattle.line_faults.specs.declared.Fault.TheVariants.{Crlf, Hex, Zeros, Spaces}
 use Rattle.sheet_faults.specs.Sheet.{is_form_two, any_fault, in_order_from}
 use Rattle.mending.specs.Changes.{change_text, changes_text}
@@ -47,3 +48,11 @@ changes-short lines =
       change-short (not (in_order_from 0 lines)) (ascii "order"),
       change-short (not (is_form_two lines)) (ascii "form"),
     )
+
+-- whether a change was made, as it is tested
+module _ {b : List ℕ} {at : ℕ} (name : List ℕ) {made is_made : Bool} (e : made ≡ is_made) where
+  pub made-room : Room b at (change_text is_made name) → Room b at (change_text made name)
+  made-room h = room_as (ap (λ (t : Bool). change_text t name) (sym e)) h
+
+  pub made-put : {b' : List ℕ} {end : ℕ} → Put b at (change_text made name) b' end → Put b at (change_text is_made name) b' end
+  made-put p = put_as (ap (λ (t : Bool). change_text t name) e) p

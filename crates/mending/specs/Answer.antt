@@ -1,10 +1,11 @@
 -- What mending answers (document 02, [12]): the refusals in their order, what the call leaves, and what the program prints.
 -- Assumes nothing: these are definitions.
-use Rattle.std.specs.Prelude.{not, List, ℕ, eqb, ltb, length}
+use Rattle.std.specs.Prelude.{not, List, ℕ, eqb, ltb, length, Result, Ok, Err}
 use Rattle.laws.specs.Choice.{pick}
 use Rattle.writing.specs.Text.{digits, line_text}
 use Rattle.writing.specs.Writing.{at_front}
 use Rattle.refusals.specs.Numbers.{done, record_too_long, refuse}
+use Rattle.refusals.specs.declared.Refusal.{Refusal}
 use Rattle.sheet_faults.specs.Sheet.{lines_of, sheet_bad}
 use Rattle.mended_text.specs.Text.{text_mended}
 use Rattle.mending.specs.Changes.{is_record, sheet_mended}
@@ -39,6 +40,11 @@ pub record MendOut : Type 0 where
 
 abbrev pub mend_as : ℕ → ℕ → List ℕ → MendOut
 mend_as refusal length buffer = record { refusal = refusal; length = length; buffer = buffer }
+
+-- the length that a mended sheet is answered with, and 0 with a refusal
+abbrev pub length_of : Result ℕ Refusal → ℕ
+length_of (Ok size) = size
+length_of (Err refusal) = 0
 
 -- the mended sheet at the front of the buffer; or the refusal, and the buffer as it was
 unfoldable pub mend_out : List ℕ → List ℕ → MendOut

@@ -6,13 +6,14 @@ mod changes;
 ghost use Rattle.std.specs.Prelude.{◌≡◌, ◌<◌, ◌≤◌, length};
 ghost use Rattle.writing.specs.Text.{digits, line_text};
 ghost use Rattle.writing.specs.Writing.{Put};
+ghost use Rattle.refusals.specs.Refused.{number_of};
 ghost use Rattle.mending.specs.Changes.{is_record};
-ghost use Rattle.mending.specs.Answer.{mend_as, mend_out, print_as, print_out};
+ghost use Rattle.mending.specs.Answer.{length_of, mend_as, mend_out, print_as, print_out};
 
 use changes::put_changes;
-use line_parts::front;
 use mended_text::put_text;
 use record_reader::read_record;
+use refusals::Refusal;
 use sheet_faults::{is_form_two, sheet_bad};
 use writing::{put_bytes, put_line};
 
@@ -22,61 +23,34 @@ pub const ROOM: usize = 218;
 // A mended text is at most 100 bytes longer than its sheet of 4,096, and the changes are 81.
 const SHEET: usize = 4277;
 
-// refusal 25: a name missing, doubled or unknown for the form, a last line without its LF, or a longer text
-const SHEET_NAMES: u8 = 25;
-
-// refusal 26: a value is still out of form or range
-const SHEET_VALUE: u8 = 26;
-
-// Refusal and length of the mended sheet. A refusal has length 0.
-#[derive(Clone, Copy)]
-pub struct Mended {
-    pub refusal: u8,
-    pub length: usize,
-}
-
 // Is a text one record and nothing after it?
+#[tactic(auto, unfolding(crate::specs::Changes::is_record))]
 fn is_record(s: &[u8]) -> bool
     ensures { result ≡ is_record s.now }
 {
-    let r = read_record(s);
-    if r.refusal != refusals::DONE {
-        return false;
-    }
-    r.used == s.len()
+    let record = read_record(s);
+    record.refusal == refusals::DONE && record.used == s.len()
 }
 
-// The mended sheet, at the front of the buffer. The bytes after it stay; a refused sheet leaves them all.
-pub fn mend(text: &[u8], buffer: &mut [u8]) -> Mended
-    ensures { mend_as result.refusal result.length buffer.new ≡ mend_out text.now buffer.old }
+// The mended sheet, at the front of the buffer, and its length. The bytes after it stay; a refused sheet leaves them all.
+pub fn mend(text: &[u8], buffer: &mut [u8]) -> Result<usize, Refusal>
+    ensures { mend_as (number_of result) (length_of result) buffer.new ≡ mend_out text.now buffer.old }
 {
     if sheet_bad(text) {
-        return Mended {
-            refusal: SHEET_NAMES,
-            length: 0,
-        };
+        return Err(Refusal::SheetNamesBad);
     }
     let two = is_form_two(text);
     let mut sheet = [0u8; SHEET];
     let end = put_text(&mut sheet, text, two);
-    if !is_record(front(&sheet, end)) {
-        return Mended {
-            refusal: SHEET_VALUE,
-            length: 0,
-        };
+    if !is_record(&sheet[..end]) {
+        return Err(Refusal::SheetValueBad);
     }
     let length = put_changes(&mut sheet, end, text, two);
     if buffer.len() < length {
-        return Mended {
-            refusal: refusals::RECORD_ROOM,
-            length: 0,
-        };
+        return Err(Refusal::RecordTooLong);
     }
-    put_bytes(buffer, 0, front(&sheet, length));
-    Mended {
-        refusal: refusals::DONE,
-        length,
-    }
+    put_bytes(buffer, 0, &sheet[..length]);
+    Ok(length)
 }
 
 // What the program prints of a text, at the front of the buffer, and its length. A smaller buffer than `ROOM` stays as it is, with length 0.
@@ -86,11 +60,10 @@ pub fn print(text: &[u8], buffer: &mut [u8]) -> usize
     if buffer.len() < ROOM {
         return 0;
     }
-    let m = mend(text, buffer);
-    if m.refusal == refusals::DONE {
-        return m.length;
+    match mend(text, buffer) {
+        Ok(length) => length,
+        Err(refusal) => put_line(buffer, 0, b"refused=", u64::from(refusal.number())),
     }
-    put_line(buffer, 0, b"refused=", m.refusal as u64)
 }
 
 // Mends a text into `out`, and leaves the length of the mended sheet in `written`.
@@ -98,7 +71,14 @@ pub fn print(text: &[u8], buffer: &mut [u8]) -> usize
 pub extern "C" fn card_mend(text: &[u8], out: &mut [u8], written: &mut usize) -> u8
     ensures { mend_as result written.new out.new ≡ mend_out text.now out.old }
 {
-    let m = mend(text, out);
-    *written = m.length;
-    m.refusal
+    match mend(text, out) {
+        Ok(length) => {
+            *written = length;
+            refusals::DONE
+        }
+        Err(refusal) => {
+            *written = 0;
+            refusal.number()
+        }
+    }
 }

@@ -1,13 +1,13 @@
 -- `mending::mend`: by the tests, each in its place. Assumes nothing.
 use mathlib.Core.Path.{◌≡◌, sym, ap, ◌∙◌}
-use mathlib.Core.Bool.{true, false}
 use Prim.Native.Nat.{ℕ, ◌≤◌}
 use native.Mathlib.Omega.{arith}
 use lib.ListN.{length, replicate, length-replicate}
+use lib.Seq.{length-take-le}
 use Rattle.refusals.specs.Numbers.{done}
 use Rattle.writing.specs.Writing.{Room}
 use Rattle.writing.proofs.Puts.{put_as, room_as}
-use Rattle.sheet_faults.specs.Sheet.{lines_of, sheet_bad}
+use Rattle.sheet_faults.specs.Sheet.{lines_of}
 use Rattle.mended_text.specs.Text.{text_mended}
 use Rattle.mending.specs.Changes.{is_record, sheet_mended}
 use Rattle.mending.specs.Answer.{mend_as}
@@ -26,56 +26,46 @@ returns-then-sheet_bad c = out-names _ _ (sym c.sheet_bad.ensures ∙ c.if-sheet
 
 pub put_text-end-requires : goal.put_text-end-requires
 put_text-end-requires c =
-    let good : sheet_bad c.args.text.now ≡ false =
-    sym c.sheet_bad.ensures ∙ c.if-sheet_bad.false
-    in
+    let good = sym c.sheet_bad.ensures ∙ c.if-sheet_bad.false in
     (c.is_form_two-two.ensures, text-room _ good size)
 
-pub front-requires : goal.front-requires
-front-requires c =
-    let good : sheet_bad c.args.text.now ≡ false =
-    sym c.sheet_bad.ensures ∙ c.if-sheet_bad.false
-    in
-    end-within _ good size c.put_text-end.ensures
+pub slice_bounds-sheet-end : goal.slice_bounds-sheet-end
+slice_bounds-sheet-end c = end-within _ (sym c.sheet_bad.ensures ∙ c.if-sheet_bad.false) size c.put_text-end.ensures
+
+pub slice_bounds-is_record-end : goal.slice_bounds-is_record-end
+slice_bounds-is_record-end c = sym (length-take-le _ _ (end-within _ (sym c.sheet_bad.ensures ∙ c.if-sheet_bad.false) size c.put_text-end.ensures))
 
 -- what is read is the mended text
 
 pub returns-then-not-is_record : goal.returns-then-not-is_record
 returns-then-not-is_record c =
-    let good : sheet_bad c.args.text.now ≡ false =
-    sym c.sheet_bad.ensures ∙ c.if-sheet_bad.false
-    in
+    let good = sym c.sheet_bad.ensures ∙ c.if-sheet_bad.false in
     let is_read : c.is_record.result ≡ is_record (text_mended (lines_of c.args.text.now)) =
-    c.is_record.ensures
-    ∙ ap is_record (c.front.ensures ∙ put-taken c.put_text-end.ensures (text-room _ good size))
+    c.is_record.ensures ∙ ap is_record (put-taken c.put_text-end.ensures (text-room _ good size))
     in
     out-value _ _ good (sym is_read ∙ c.if-not-is_record.true)
 
 pub put_changes-length-requires : goal.put_changes-length-requires
 put_changes-length-requires c =
-    let good : sheet_bad c.args.text.now ≡ false =
-    sym c.sheet_bad.ensures ∙ c.if-sheet_bad.false
-    in
+    let good = sym c.sheet_bad.ensures ∙ c.if-sheet_bad.false in
     (c.is_form_two-two.ensures, changes-room _ good size c.put_text-end.ensures)
 
 pub returns-then-buffer-length : goal.returns-then-buffer-length
 returns-then-buffer-length c =
-    let good : sheet_bad c.args.text.now ≡ false =
-    sym c.sheet_bad.ensures ∙ c.if-sheet_bad.false
-    in
+    let good = sym c.sheet_bad.ensures ∙ c.if-sheet_bad.false in
     let is_read : c.is_record.result ≡ is_record (text_mended (lines_of c.args.text.now)) =
-    c.is_record.ensures
-    ∙ ap is_record (c.front.ensures ∙ put-taken c.put_text-end.ensures (text-room _ good size))
+    c.is_record.ensures ∙ ap is_record (put-taken c.put_text-end.ensures (text-room _ good size))
     in
     out-room _ _ good (sym is_read ∙ c.if-not-is_record.false)
     (omega (arith, last-is _ good size c.put_text-end.ensures c.put_changes-length.ensures, c.if-buffer-length.true))
 
-pub front-requires-2 : goal.front-requires-2
-front-requires-2 c =
-    let good : sheet_bad c.args.text.now ≡ false =
-    sym c.sheet_bad.ensures ∙ c.if-sheet_bad.false
-    in
-    last_within _ good size c.put_text-end.ensures c.put_changes-length.ensures
+pub slice_bounds-sheet-end-2 : goal.slice_bounds-sheet-end-2
+slice_bounds-sheet-end-2 c =
+    last_within _ (sym c.sheet_bad.ensures ∙ c.if-sheet_bad.false) size c.put_text-end.ensures c.put_changes-length.ensures
+
+pub slice_bounds-put_bytes-end : goal.slice_bounds-put_bytes-end
+slice_bounds-put_bytes-end c =
+    sym (length-take-le _ _ (last_within _ (sym c.sheet_bad.ensures ∙ c.if-sheet_bad.false) size c.put_text-end.ensures c.put_changes-length.ensures))
 
 -- what is copied is the mended sheet
 
@@ -83,12 +73,8 @@ front-requires-2 c =
 
 pub put_bytes-requires : goal.put_bytes-requires
 put_bytes-requires c =
-    let good : sheet_bad c.args.text.now ≡ false =
-    sym c.sheet_bad.ensures ∙ c.if-sheet_bad.false
-    in
-    let is-sheet : c.front-2.result.now ≡ sheet_mended (lines_of c.args.text.now) =
-    c.front-2.ensures ∙ sheet-taken _ good size c.put_text-end.ensures c.put_changes-length.ensures
-    in
+    let good = sym c.sheet_bad.ensures ∙ c.if-sheet_bad.false in
+    let is-sheet = sheet-taken _ good size c.put_text-end.ensures c.put_changes-length.ensures in
     let sheet-fits : length (sheet_mended (lines_of c.args.text.now)) ≤ length c.args.buffer.now =
     omega (
       arith,
@@ -103,16 +89,11 @@ put_bytes-requires c =
 
 pub returns : goal.returns
 returns c =
-    let good : sheet_bad c.args.text.now ≡ false =
-    sym c.sheet_bad.ensures ∙ c.if-sheet_bad.false
-    in
+    let good = sym c.sheet_bad.ensures ∙ c.if-sheet_bad.false in
     let is_read : c.is_record.result ≡ is_record (text_mended (lines_of c.args.text.now)) =
-    c.is_record.ensures
-    ∙ ap is_record (c.front.ensures ∙ put-taken c.put_text-end.ensures (text-room _ good size))
+    c.is_record.ensures ∙ ap is_record (put-taken c.put_text-end.ensures (text-room _ good size))
     in
-    let is-sheet : c.front-2.result.now ≡ sheet_mended (lines_of c.args.text.now) =
-    c.front-2.ensures ∙ sheet-taken _ good size c.put_text-end.ensures c.put_changes-length.ensures
-    in
+    let is-sheet = sheet-taken _ good size c.put_text-end.ensures c.put_changes-length.ensures in
     let sheet-fits : length (sheet_mended (lines_of c.args.text.now)) ≤ length c.args.buffer.now =
     omega (
       arith,

@@ -1,6 +1,6 @@
 -- `changes::put_change`: nothing, or the line. Assumes nothing.
 use mathlib.Core.Path.{◌≡◌, sym, ap, ◌∙◌}
-use mathlib.Core.Bool.{Bool, true, false}
+use mathlib.Core.Bool.{Bool}
 use mathlib.Core.List.{◌∷◌, [], ◌++◌}
 use Rattle.writing.specs.Text.{ascii, lf}
 use Rattle.writing.proofs.Puts.{put_as, put-none, put_then, put-length, room_as, room-first, room-then}
