@@ -1,10 +1,9 @@
 -- What the tests of a line say of its numbers. Assumes nothing.
-use mathlib.Core.Bool.{true, false, ◌&&◌, ◌||◌}
-use mathlib.Core.Path.{◌≡◌, sym, ◌∙◌}
-use Prim.Native.Nat.{ℕ, ◌*◌, ◌≤◌}
-use native.Mathlib.Omega.{arith}
-use lib.Dec.{eqb, ltb, leb}
-use borrow.Author.Tests.{leb-true, eqb-true, eq-eqb, ne_eqb}
+use mathlib.Core.Bool.{true}
+use mathlib.Core.Path.{◌≡◌}
+use Prim.Native.Nat.{ℕ, ◌≤◌}
+use lib.Dec.{leb}
+use borrow.Author.Tests.{leb-true, eq-eqb, ne_eqb}
 use Rattle.laws.proofs.Cases.{and_left, and_right}
 use Rattle.fields.specs.Fields.{between}
 use Rattle.fields.proofs.Ranges.{between-low, between-high}

@@ -1,5 +1,4 @@
 -- Euclid's algorithm: one step, its end, and that it gives the greatest common divisor. Assumes nothing.
-use mathlib.Core.Bool.{true, false}
 use mathlib.Core.Logic.{⊎_elim}
 use mathlib.Core.Path.{◌≡◌, refl, sym, subst, ◌∙◌}
 use Prim.Native.Nat.{ℕ, zero, suc, ◌≤◌, ◌<◌, ◌%◌}

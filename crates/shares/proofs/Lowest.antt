@@ -3,11 +3,11 @@ use mathlib.Core.Logic.{⊎_elim}
 use mathlib.Core.Path.{◌≡◌, refl, sym, ap, subst, ◌∙◌}
 use Prim.Native.Nat.{ℕ, zero, suc, ◌*◌, ◌≤◌, ◌<◌, ◌/◌}
 use Prim.Native.Nat.{◌∣◌}
-use native.Mathlib.Nat.{mul_assoc, mul_comm, mul_right_comm, pos_of_dvd_of_pos, div-mul_cancel, eq-one_of_dvd-one, dvd_of_mul-dvd-mul_right, mul-dvd-mul_right, one-mul}
+use native.Mathlib.Nat.{mul_assoc, mul_right_comm, pos_of_dvd_of_pos, div-mul_cancel, eq-one_of_dvd-one, dvd_of_mul-dvd-mul_right, mul-dvd-mul_right, one-mul}
 use native.Mathlib.Omega.{arith}
 use borrow.Author.Tests.{eq-eqb, ne_eqb}
 use Rattle.laws.proofs.Cases.{eq-or-ne}
-use Rattle.shares.specs.Share.{gcd, fraction_of, share_of, LowestShare}
+use Rattle.shares.specs.Share.{gcd, share_of, LowestShare}
 use Rattle.shares.proofs.Euclid.{gcd-divides, gcd-greatest}
 
 pub positive_of : (n : ℕ) → (n ≡ 0 → ⊥) → 0 < n

@@ -2,7 +2,7 @@
 #![tactic(auto)]
 
 ghost use Rattle.std.specs.Prelude.{◌≡◌};
-ghost use Rattle.shares.specs.Share.{gcd, fraction_of, share_of};
+ghost use Rattle.shares.specs.Share.{gcd, share_of};
 
 // A fraction.
 #[derive(Clone, Copy)]
@@ -18,17 +18,9 @@ fn gcd(a: u64, b: u64) -> u64
     let mut x = a;
     let mut y = b;
     while y != 0 {
-        let rest = x % y;
-        x = y;
-        y = rest;
+        (x, y) = (y, x % y);
     }
     x
-}
-
-fn fraction(top: u64, bottom: u64) -> Share
-    ensures { result ≡ fraction_of top bottom }
-{
-    Share { top, bottom }
 }
 
 // The share of a part in a whole, in lowest terms; 0/1 where the whole is 0.
@@ -36,8 +28,11 @@ pub fn share_of(part: u64, whole: u64) -> Share
     ensures { result ≡ share_of part whole }
 {
     if whole == 0 {
-        return fraction(0, 1);
+        return Share { top: 0, bottom: 1 };
     }
     let divisor = gcd(part, whole);
-    fraction(part / divisor, whole / divisor)
+    Share {
+        top: part / divisor,
+        bottom: whole / divisor,
+    }
 }
