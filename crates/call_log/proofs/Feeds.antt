@@ -1,6 +1,6 @@
 -- A log fed byte by byte: two parts one after the other are the whole. Assumes nothing.
 use mathlib.Core.List.{List, [], ◌∷◌, ◌++◌}
-use mathlib.Core.Path.{◌≡◌, refl, ap, ◌∙◌}
+use mathlib.Core.Path.{◌≡◌, refl}
 use Prim.Native.Nat.{ℕ, ◌+◌, ◌<◌, ◌≤◌}
 use native.Mathlib.Numerals.{add-one}
 use lib.ListN.{length, get_or, drop, drop_of_length-le}

@@ -7,11 +7,10 @@ ghost use Rattle.std.specs.Prelude.{◌≡◌};
 ghost use Rattle.call_log.specs.Fed.{line_start, call_of, ended, fed_byte, fed, fed_to, ends_line, wrong_line};
 
 use logged_calls::Call;
-use logged_calls::soundness::is_sound;
 use part::{in_line, line_start, stopped};
 
 // How many figures there are.
-pub const FIGURES: usize = 223;
+pub const FIGURES: usize = logged_calls::figures::FIGURES;
 
 const MOST_LINES: u64 = 65535;
 
@@ -57,7 +56,7 @@ fn end_line(m: Month, figures: &mut [u64]) -> Month
     if MOST_LINES < m.line {
         return stopped(m.line);
     }
-    if !is_sound(c) {
+    if !c.is_sound() {
         return stopped(m.line);
     }
     log_figures::add(figures, c);
@@ -87,11 +86,8 @@ pub fn feed(m: Month, figures: &mut [u64], block: &[u8]) -> Month
     ensures { fed_to result figures.new ≡ fed (fed_to m figures.old) block.now }
 {
     let mut now = m;
-    let mut i = 0;
-    while i < block.len() {
-        let next = feed_byte(now, figures, block[i]);
-        now = next;
-        i += 1;
+    for b in block {
+        now = feed_byte(now, figures, *b);
     }
     now
 }

@@ -1,6 +1,8 @@
 // The calls of a log (document 02, [13]), and which of them are sound.
 #![tactic(auto)]
 
+pub mod figures;
+
 ghost use Rattle.std.specs.Prelude.{◌≡◌};
 ghost use Rattle.logged_calls.specs.Log.{sound_accepted, sound_refused, is_sound};
 

@@ -1,9 +1,8 @@
 -- `call_log::end_line`: by the tests of the line's number and of its numbers. Assumes nothing.
 use mathlib.Core.Path.{sym, ap, ◌∙◌}
-use mathlib.Core.Bool.{true}
 use borrow.Author.Tests.{le-leb, lt-leb}
 use Rattle.logged_calls.specs.Log.{is_sound}
-use Rattle.call_log.specs.Fed.{fed_to, line_start, taken, ended}
+use Rattle.call_log.specs.Fed.{fed_to, taken, ended}
 use Rattle.logged_calls.specs.Figures.{added}
 use Rattle.call_log.proofs.end_line.Goals as goal
 

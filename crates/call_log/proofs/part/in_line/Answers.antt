@@ -2,7 +2,7 @@
 use mathlib.Core.Path.{sym, ap, ◌∙◌}
 use Prim.Native.Nat.{ℕ}
 use borrow.Author.Tests.{eq-eqb, ne_eqb, le-leb, lt-leb}
-use Rattle.call_log.specs.Fed.{name_byte, first_digit, of_name, in_line}
+use Rattle.call_log.specs.Fed.{name_byte, of_name, in_line}
 use Rattle.call_log.proofs.part.in_line.Goals as goal
 
 pub returns-then-m-ge-IN_NUMBER : goal.returns-then-m-ge-IN_NUMBER
