@@ -126,7 +126,14 @@ fn put_total(buffer: &mut [u8], at: usize, lines: u64, sums: Row) -> usize
 {
     let accepted = put_item(buffer, at, b"lines=", lines);
     let ciphered = put_item(buffer, accepted, b" calls=", sums.calls);
-    put_pair(buffer, ciphered, b" bits=", sums.bits, b" blocks=", sums.blocks)
+    put_pair(
+        buffer,
+        ciphered,
+        b" bits=",
+        sums.bits,
+        b" blocks=",
+        sums.blocks,
+    )
 }
 
 // The sheet: each slot and direction, then each refusal number, then all.
@@ -136,7 +143,12 @@ fn put_sheet<'a>(buffer: &'a mut [u8], figures: &'a [u64]) -> usize
 {
     let counts = put_rows(buffer, 0, figures);
     let total = put_counts(buffer, counts, figures);
-    put_total(buffer, total, figure(figures, LINES_AT), row_at(figures, TOTAL_ROW))
+    put_total(
+        buffer,
+        total,
+        figure(figures, LINES_AT),
+        row_at(figures, TOTAL_ROW),
+    )
 }
 
 // What is printed of a log that is read, at the front of the buffer, and its length. The bytes after it stay. A smaller buffer stays as it is, with length 0.

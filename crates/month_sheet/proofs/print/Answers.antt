@@ -3,6 +3,8 @@ use mathlib.Core.Path.{refl, sym, ap, ◌∙◌}
 use native.Mathlib.Omega.{arith}
 use borrow.Author.Tests.{lt-ltb}
 use Rattle.writing.proofs.Puts.{put_as}
+use mathlib.Core.List.{◌++◌}
+use Rattle.writing.specs.Text.{digits, item, line_text}
 use Rattle.call_log.specs.Fed.{fed_to}
 use Rattle.month_sheet.specs.Sheet.{wrong_line_text, printed_length, printed_buffer}
 use Rattle.month_sheet.proofs.Lengths.{refused-short}
@@ -22,13 +24,16 @@ returns-then-line-eq0 c =
 
 pub put_pair-requires : goal.put_pair-requires
 unfolding wrong_line_text
-put_pair-requires c = record { fits = omega (arith, refused-short c.wrong_line-line.result (search rules)) }
+put_pair-requires c =
+    rw (c.from-refusal.ensures ∙ c.number.ensures)
+    (record { fits = omega (arith, refused-short c.wrong_line-line.result (search rules)) })
 
 pub returns : goal.returns
 unfolding wrong_line_text
 returns c =
     let f = fed_to c.args.m c.args.figures.now in
     let line = c.wrong_line-line.ensures in
-    let put = c.put_pair.ensures in
+    let number = c.from-refusal.ensures ∙ c.number.ensures in
+    let put = put_as (λ i. item "refused=" (digits (number i)) ++ line_text " line=" (digits c.wrong_line-line.result)) c.put_pair.ensures in
     printed f _ c.if-buffer-lt-ROOM.false (omega (arith, put.ends, refused-short c.wrong_line-line.result (search rules)))
     (put_as (ap wrong_line_text line ∙ sym (printed-refused f (λ e. c.if-line-eq0.false (line ∙ e)))) put)

@@ -7,9 +7,6 @@ use Rattle.month_sheet.proofs.put_counts.Given as goal
 
 abbrev pub invariant-loop-code : goal.invariant-loop-code
 invariant-loop-code l =
-    (1 ≤ l.code) × (l.code ≤ 28) × (l.end + longest_count ≤ l.at + l.code * longest_count)
+    (l.end + longest_count ≤ l.at + l.code * longest_count)
     × Left l.initial.buffer l.at (texts (λ code. count_text code (get_or l.figures (195 + code) 0)) 1 27) l.buffer l.end
     (texts (λ code. count_text code (get_or l.figures (195 + code) 0)) l.code (28 - l.code))
-
-abbrev pub decreases-loop-code : goal.decreases-loop-code
-decreases-loop-code l = 28 - l.code

@@ -1,5 +1,4 @@
 -- `month_sheet::put_pair`: item after item. Assumes nothing.
-use Rattle.writing.proofs.Puts.{put-length}
 use Rattle.writing.proofs.Left.{left-all, left-room, left-next, left-last, next-room}
 use Rattle.month_sheet.proofs.put_pair.Goals as goal
 
@@ -11,6 +10,3 @@ put_line-requires c = left-room c.requires (left-next left-all c.put_item-end.en
 
 pub returns : goal.returns
 returns c = left-last (left-next left-all c.put_item-end.ensures) c.put_line.ensures
-
-pub shape_of-buffer : goal.shape_of-buffer
-shape_of-buffer c = put-length (returns c)

@@ -3,7 +3,6 @@ use native.Mathlib.Omega.{arith}
 use Prim.Native.Nat.{◌≤◌}
 use lib.ListN.{length}
 use Rattle.writing.specs.Writing.{Room}
-use Rattle.writing.proofs.Puts.{put-length}
 use Rattle.writing.proofs.Left.{left-all, left-room, left-next, left-last, next-room}
 use Rattle.month_sheet.specs.Sheet.{row_text, longest_row}
 use Rattle.month_sheet.proofs.Lengths.{row-short}
@@ -17,10 +16,10 @@ use Rattle.month_sheet.proofs.put_row.Goals as goal
 pub put_item-direction-requires : goal.put_item-direction-requires
 unfolding row_text
 put_item-direction-requires c =
-    let short : length (row_text (c.args.row / 2 + 1) (c.args.row % 2 + 1) c.args.calls c.args.bits c.args.blocks c.args.all) ≤ longest_row =
+    let short : length (row_text (c.args.row / 2 + 1) (c.args.row % 2 + 1) c.args.sums.calls c.args.sums.bits c.args.sums.blocks c.args.all) ≤ longest_row =
     row-short _ _ _ _ (omega arith) (omega arith) (search rules) (search rules) _ _ (search rules) (search rules)
     in
-    let whole : Room c.args.buffer.now c.args.at (row_text (c.args.row / 2 + 1) (c.args.row % 2 + 1) c.args.calls c.args.bits c.args.blocks c.args.all) =
+    let whole : Room c.args.buffer.now c.args.at (row_text (c.args.row / 2 + 1) (c.args.row % 2 + 1) c.args.sums.calls c.args.sums.bits c.args.sums.blocks c.args.all) =
     record { fits = omega (arith, short) }
     in
     next-room _ whole left-all
@@ -28,10 +27,10 @@ put_item-direction-requires c =
 pub put_item-accepted-requires : goal.put_item-accepted-requires
 unfolding row_text
 put_item-accepted-requires c =
-    let short : length (row_text (c.args.row / 2 + 1) (c.args.row % 2 + 1) c.args.calls c.args.bits c.args.blocks c.args.all) ≤ longest_row =
+    let short : length (row_text (c.args.row / 2 + 1) (c.args.row % 2 + 1) c.args.sums.calls c.args.sums.bits c.args.sums.blocks c.args.all) ≤ longest_row =
     row-short _ _ _ _ (omega arith) (omega arith) (search rules) (search rules) _ _ (search rules) (search rules)
     in
-    let whole : Room c.args.buffer.now c.args.at (row_text (c.args.row / 2 + 1) (c.args.row % 2 + 1) c.args.calls c.args.bits c.args.blocks c.args.all) =
+    let whole : Room c.args.buffer.now c.args.at (row_text (c.args.row / 2 + 1) (c.args.row % 2 + 1) c.args.sums.calls c.args.sums.bits c.args.sums.blocks c.args.all) =
     record { fits = omega (arith, short) }
     in
     next-room _ whole (left-next left-all c.put_item-direction.ensures)
@@ -39,10 +38,10 @@ put_item-accepted-requires c =
 pub put_item-ciphered-requires : goal.put_item-ciphered-requires
 unfolding row_text
 put_item-ciphered-requires c =
-    let short : length (row_text (c.args.row / 2 + 1) (c.args.row % 2 + 1) c.args.calls c.args.bits c.args.blocks c.args.all) ≤ longest_row =
+    let short : length (row_text (c.args.row / 2 + 1) (c.args.row % 2 + 1) c.args.sums.calls c.args.sums.bits c.args.sums.blocks c.args.all) ≤ longest_row =
     row-short _ _ _ _ (omega arith) (omega arith) (search rules) (search rules) _ _ (search rules) (search rules)
     in
-    let whole : Room c.args.buffer.now c.args.at (row_text (c.args.row / 2 + 1) (c.args.row % 2 + 1) c.args.calls c.args.bits c.args.blocks c.args.all) =
+    let whole : Room c.args.buffer.now c.args.at (row_text (c.args.row / 2 + 1) (c.args.row % 2 + 1) c.args.sums.calls c.args.sums.bits c.args.sums.blocks c.args.all) =
     record { fits = omega (arith, short) }
     in
     next-room _ whole (left-next (left-next left-all c.put_item-direction.ensures) c.put_item-accepted.ensures)
@@ -50,10 +49,10 @@ put_item-ciphered-requires c =
 pub put_item-used-requires : goal.put_item-used-requires
 unfolding row_text
 put_item-used-requires c =
-    let short : length (row_text (c.args.row / 2 + 1) (c.args.row % 2 + 1) c.args.calls c.args.bits c.args.blocks c.args.all) ≤ longest_row =
+    let short : length (row_text (c.args.row / 2 + 1) (c.args.row % 2 + 1) c.args.sums.calls c.args.sums.bits c.args.sums.blocks c.args.all) ≤ longest_row =
     row-short _ _ _ _ (omega arith) (omega arith) (search rules) (search rules) _ _ (search rules) (search rules)
     in
-    let whole : Room c.args.buffer.now c.args.at (row_text (c.args.row / 2 + 1) (c.args.row % 2 + 1) c.args.calls c.args.bits c.args.blocks c.args.all) =
+    let whole : Room c.args.buffer.now c.args.at (row_text (c.args.row / 2 + 1) (c.args.row % 2 + 1) c.args.sums.calls c.args.sums.bits c.args.sums.blocks c.args.all) =
     record { fits = omega (arith, short) }
     in
     next-room _ whole (left-next (left-next (left-next left-all c.put_item-direction.ensures) c.put_item-accepted.ensures) c.put_item-ciphered.ensures)
@@ -61,10 +60,10 @@ put_item-used-requires c =
 pub put_item-share-requires : goal.put_item-share-requires
 unfolding row_text
 put_item-share-requires c =
-    let short : length (row_text (c.args.row / 2 + 1) (c.args.row % 2 + 1) c.args.calls c.args.bits c.args.blocks c.args.all) ≤ longest_row =
+    let short : length (row_text (c.args.row / 2 + 1) (c.args.row % 2 + 1) c.args.sums.calls c.args.sums.bits c.args.sums.blocks c.args.all) ≤ longest_row =
     row-short _ _ _ _ (omega arith) (omega arith) (search rules) (search rules) _ _ (search rules) (search rules)
     in
-    let whole : Room c.args.buffer.now c.args.at (row_text (c.args.row / 2 + 1) (c.args.row % 2 + 1) c.args.calls c.args.bits c.args.blocks c.args.all) =
+    let whole : Room c.args.buffer.now c.args.at (row_text (c.args.row / 2 + 1) (c.args.row % 2 + 1) c.args.sums.calls c.args.sums.bits c.args.sums.blocks c.args.all) =
     record { fits = omega (arith, short) }
     in
     next-room _ whole (left-next (left-next (left-next (left-next left-all c.put_item-direction.ensures) c.put_item-accepted.ensures) c.put_item-ciphered.ensures) c.put_item-used.ensures)
@@ -72,10 +71,10 @@ put_item-share-requires c =
 pub put_pair-requires : goal.put_pair-requires
 unfolding row_text share_text
 put_pair-requires c =
-    let short : length (row_text (c.args.row / 2 + 1) (c.args.row % 2 + 1) c.args.calls c.args.bits c.args.blocks c.args.all) ≤ longest_row =
+    let short : length (row_text (c.args.row / 2 + 1) (c.args.row % 2 + 1) c.args.sums.calls c.args.sums.bits c.args.sums.blocks c.args.all) ≤ longest_row =
     row-short _ _ _ _ (omega arith) (omega arith) (search rules) (search rules) _ _ (search rules) (search rules)
     in
-    let whole : Room c.args.buffer.now c.args.at (row_text (c.args.row / 2 + 1) (c.args.row % 2 + 1) c.args.calls c.args.bits c.args.blocks c.args.all) =
+    let whole : Room c.args.buffer.now c.args.at (row_text (c.args.row / 2 + 1) (c.args.row % 2 + 1) c.args.sums.calls c.args.sums.bits c.args.sums.blocks c.args.all) =
     record { fits = omega (arith, short) }
     in
     room_as (sym (ap (λ s. share_text s.top s.bottom) c.share_of-part.ensures))
@@ -84,11 +83,8 @@ put_pair-requires c =
 pub returns : goal.returns
 unfolding row_text share_text
 returns c =
-    let short : length (row_text (c.args.row / 2 + 1) (c.args.row % 2 + 1) c.args.calls c.args.bits c.args.blocks c.args.all) ≤ longest_row =
+    let short : length (row_text (c.args.row / 2 + 1) (c.args.row % 2 + 1) c.args.sums.calls c.args.sums.bits c.args.sums.blocks c.args.all) ≤ longest_row =
     row-short _ _ _ _ (omega arith) (omega arith) (search rules) (search rules) _ _ (search rules) (search rules)
     in
     let put = left-last (left-next (left-next (left-next (left-next (left-next left-all c.put_item-direction.ensures) c.put_item-accepted.ensures) c.put_item-ciphered.ensures) c.put_item-used.ensures) c.put_item-share.ensures) (put_as (ap (λ s. share_text s.top s.bottom) c.share_of-part.ensures) c.put_pair.ensures) in
     (omega (arith, put.ends, short), put)
-
-pub shape_of-buffer : goal.shape_of-buffer
-shape_of-buffer c = put-length (returns c).1

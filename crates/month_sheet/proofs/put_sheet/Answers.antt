@@ -11,5 +11,5 @@ returns c =
       omega (arith, put.0, c.put_counts-total.ensures.0, c.put_rows-counts.ensures.0),
       put_then c.put_rows-counts.ensures.1
           (put_then c.put_counts-total.ensures.1
-          (put_as (λ k. total_text (c.figure.ensures k) (c.figure-2.ensures k) (c.figure-3.ensures k) (c.figure-4.ensures k)) put.1)),
+          (put_as (λ k. total_text (c.figure.ensures k) (c.row_at.ensures.calls k) (c.row_at.ensures.bits k) (c.row_at.ensures.blocks k)) put.1)),
     )

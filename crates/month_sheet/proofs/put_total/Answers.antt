@@ -3,7 +3,6 @@ use native.Mathlib.Omega.{arith}
 use Prim.Native.Nat.{◌≤◌}
 use lib.ListN.{length}
 use Rattle.writing.specs.Writing.{Room}
-use Rattle.writing.proofs.Puts.{put-length}
 use Rattle.writing.proofs.Left.{left-all, left-room, left-next, left-last, next-room}
 use Rattle.month_sheet.specs.Sheet.{total_text, longest_total}
 use Rattle.month_sheet.proofs.Lengths.{total-short}
@@ -13,10 +12,10 @@ use Rattle.month_sheet.proofs.put_total.Goals as goal
 pub put_item-accepted-requires : goal.put_item-accepted-requires
 unfolding total_text
 put_item-accepted-requires c =
-    let short : length (total_text c.args.lines c.args.calls c.args.bits c.args.blocks) ≤ longest_total =
+    let short : length (total_text c.args.lines c.args.sums.calls c.args.sums.bits c.args.sums.blocks) ≤ longest_total =
     total-short _ _ _ _ (search rules) (search rules) (search rules) (search rules)
     in
-    let whole : Room c.args.buffer.now c.args.at (total_text c.args.lines c.args.calls c.args.bits c.args.blocks) =
+    let whole : Room c.args.buffer.now c.args.at (total_text c.args.lines c.args.sums.calls c.args.sums.bits c.args.sums.blocks) =
     record { fits = omega (arith, short) }
     in
     next-room _ whole left-all
@@ -24,10 +23,10 @@ put_item-accepted-requires c =
 pub put_item-ciphered-requires : goal.put_item-ciphered-requires
 unfolding total_text
 put_item-ciphered-requires c =
-    let short : length (total_text c.args.lines c.args.calls c.args.bits c.args.blocks) ≤ longest_total =
+    let short : length (total_text c.args.lines c.args.sums.calls c.args.sums.bits c.args.sums.blocks) ≤ longest_total =
     total-short _ _ _ _ (search rules) (search rules) (search rules) (search rules)
     in
-    let whole : Room c.args.buffer.now c.args.at (total_text c.args.lines c.args.calls c.args.bits c.args.blocks) =
+    let whole : Room c.args.buffer.now c.args.at (total_text c.args.lines c.args.sums.calls c.args.sums.bits c.args.sums.blocks) =
     record { fits = omega (arith, short) }
     in
     next-room _ whole (left-next left-all c.put_item-accepted.ensures)
@@ -35,10 +34,10 @@ put_item-ciphered-requires c =
 pub put_pair-requires : goal.put_pair-requires
 unfolding total_text
 put_pair-requires c =
-    let short : length (total_text c.args.lines c.args.calls c.args.bits c.args.blocks) ≤ longest_total =
+    let short : length (total_text c.args.lines c.args.sums.calls c.args.sums.bits c.args.sums.blocks) ≤ longest_total =
     total-short _ _ _ _ (search rules) (search rules) (search rules) (search rules)
     in
-    let whole : Room c.args.buffer.now c.args.at (total_text c.args.lines c.args.calls c.args.bits c.args.blocks) =
+    let whole : Room c.args.buffer.now c.args.at (total_text c.args.lines c.args.sums.calls c.args.sums.bits c.args.sums.blocks) =
     record { fits = omega (arith, short) }
     in
     left-room whole (left-next (left-next left-all c.put_item-accepted.ensures) c.put_item-ciphered.ensures)
@@ -46,11 +45,8 @@ put_pair-requires c =
 pub returns : goal.returns
 unfolding total_text
 returns c =
-    let short : length (total_text c.args.lines c.args.calls c.args.bits c.args.blocks) ≤ longest_total =
+    let short : length (total_text c.args.lines c.args.sums.calls c.args.sums.bits c.args.sums.blocks) ≤ longest_total =
     total-short _ _ _ _ (search rules) (search rules) (search rules) (search rules)
     in
     let put = left-last (left-next (left-next left-all c.put_item-accepted.ensures) c.put_item-ciphered.ensures) c.put_pair.ensures in
     (omega (arith, put.ends, short), put)
-
-pub shape_of-buffer : goal.shape_of-buffer
-shape_of-buffer c = put-length (returns c).1
