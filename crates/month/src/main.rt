@@ -10,15 +10,12 @@ const BLOCK: usize = 65536;
 // Reads to the end of the input, or until a line is wrong. The blocks' count only bounds the loop: a log that long is wrong much earlier.
 fn read_log<R: Read>(reader: &mut R, figures: &mut [u64]) -> io::Result<Month> {
     let mut m = call_log::start();
-    let mut left: u64 = 18446744073709551615;
-    while 0 < left {
+    for _ in 0..u64::MAX {
         let mut block = [0u8; BLOCK];
         let n = filling::read_full(reader, &mut block)?;
-        let next = call_log::feed(m, figures, &block[..n]);
-        m = next;
-        left -= 1;
+        m = call_log::feed(m, figures, &block[..n]);
         if n < BLOCK || !m.good {
-            left = 0;
+            break;
         }
     }
     Ok(m)

@@ -11,11 +11,9 @@ use std::io::Write;
 fn answer_all<W: Write>(writer: &mut W, input: &[u8], out: &mut [u8]) -> io::Result<()>
     requires { answer_room ≤ length out.old }
 {
-    let mut at = 0;
-    while at < input.len() {
-        let length = cases::put_answer(out, &input[at..]);
+    for line in input.split_inclusive(|b| *b == b'\n') {
+        let length = cases::put_answer(out, line);
         writer.write_all(&out[..length])?;
-        at += cases::line_length(&input[at..]);
     }
     Ok(())
 }
