@@ -1,17 +1,17 @@
 -- Counting lines and columns: line and column name a place. Assumes nothing.
 use mathlib.Core.Path.{◌≡◌, refl, sym, ap, subst, ◌∙◌}
 use mathlib.Core.Logic.{⊎_elim}
-use mathlib.Core.Bool.{Bool, true, false}
-use mathlib.Core.List.{List, [], ◌∷◌, ◌++◌, append_assoc, tail-eq_of_cons-eq}
-use Prim.Native.Nat.{ℕ, zero, suc, ◌+◌, ◌-◌, ◌≤◌, ◌<◌, ◌/◌, ◌%◌}
+use mathlib.Core.Bool.{Bool, true, false, not, cond}
+use mathlib.Core.List.{List, [], ◌∷◌, ◌++◌, append_assoc, tail-eq_of_cons-eq, reverse, reverse-cons, reverse-reverse}
+use Prim.Native.Nat.{ℕ, zero, suc, ◌+◌, ◌-◌, ◌≤◌, ◌/◌, ◌%◌}
 use Prim.Native.String.{String}
 use native.Mathlib.Nat.{zero-add}
-use native.Mathlib.Numerals.{add-one}
 use native.Mathlib.Omega.{arith}
 use lib.Dec.{eqb, ltb}
-use lib.ListN.{length, get_or, take, length-append}
-use lib.Seq.{take-suc}
-use borrow.Author.Tests.{eqb-true, eq-eqb, ne_eqb}
+use lib.ListN.{length, take, length-append}
+use Rattle.std.specs.List.{filter, prefix_len}
+use Rattle.std.proofs.lemmas.List.Folds.{length-prefix_len}
+use borrow.Author.Tests.{eqb-true, ne_eqb}
 use Rattle.laws.specs.Choice.{pick}
 use Rattle.laws.proofs.Cases.{lt-or-le, pick-cases}
 use Rattle.writing.specs.Text.{ascii, lf, digits, hex_digit, hex_text, line_text}
@@ -23,23 +23,15 @@ unfolding line_ends
 ends-append [] t = omega arith
 ends-append (b ∷ s) t = let e = ends-append s t in omega arith
 
-pub line_first : (s : List ℕ) → line_of s 0 ≡ 1
-unfolding line_of line_ends
-line_first s = refl
-
-module _ (s : List ℕ) (i : ℕ) (h : i < length s) where
-  line-more : line_of s (i + 1) ≡ line_of s i + pick (eqb (get_or s i 0) lf) 1 0
-  unfolding line_of line_ends
-  line-more =
-      let e : line_ends (take (i + 1) s) ≡ line_ends (take i s) + (pick (eqb (get_or s i 0) lf) 1 0 + 0) =
-      ap (λ (n : ℕ). line_ends (take n s)) (add-one i) ∙ ap line_ends (take-suc s i 0 h) ∙ ends-append (take i s) (get_or s i 0 ∷ []) in
-      omega arith
-
-  pub line-next : get_or s i 0 ≡ lf → line_of s (i + 1) ≡ line_of s i + 1
-  line-next e = line-more ∙ ap (λ t. line_of s i + pick t 1 0) (eq-eqb (get_or s i 0) lf e)
-
-  pub line_same : (get_or s i 0 ≡ lf → ⊥) → line_of s (i + 1) ≡ line_of s i
-  line_same n = omega (arith, line-more ∙ ap (λ t. line_of s i + pick t 1 0) (ne_eqb (get_or s i 0) lf n))
+-- counted by a filter
+pub ends-filter : (s : List ℕ) → length (filter (λ b. eqb b lf) s) ≡ line_ends s
+unfolding line_ends
+ends-filter [] = refl
+ends-filter (b ∷ s) = go (eqb b lf) (ends-filter s)
+  where
+    go : (t : Bool) → length (filter (λ b. eqb b lf) s) ≡ line_ends s → length (cond t (b ∷ filter (λ b. eqb b lf) s) (filter (λ b. eqb b lf) s)) ≡ pick t 1 0 + line_ends s
+    go true e = omega (arith, e)
+    go false e = omega (arith, e)
 
 -- columns
 
@@ -54,21 +46,19 @@ column-some c [] h = h
 column-some c (b ∷ s) h =
     column-some (pick (eqb b lf) 1 (c + 1)) s (pick-cases (λ (n : ℕ). 1 ≤ n) (eqb b lf) (λ _. omega arith) (λ _. omega arith))
 
-pub column-first : (s : List ℕ) → column_of s 0 ≡ 1
-unfolding column_of column_after
-column-first s = refl
+-- counted back to the last line end
+column-back : (r : List ℕ) → 1 + prefix_len (λ b. not (eqb b lf)) r ≡ column_after 1 (reverse r)
+unfolding column_after
+column-back [] = refl
+column-back (b ∷ r) = go (eqb b lf) (column-back r) ∙ sym (ap (column_after 1) (reverse-cons b r) ∙ column-append 1 (reverse r) (b ∷ []))
+  where
+    go : (t : Bool) → 1 + prefix_len (λ b. not (eqb b lf)) r ≡ column_after 1 (reverse r)
+        → 1 + cond (not t) (1 + prefix_len (λ b. not (eqb b lf)) r) 0 ≡ pick t 1 (column_after 1 (reverse r) + 1)
+    go true e = refl
+    go false e = omega (arith, e)
 
-module _ (s : List ℕ) (i : ℕ) (h : i < length s) where
-  column-more : column_of s (i + 1) ≡ pick (eqb (get_or s i 0) lf) 1 (column_of s i + 1)
-  unfolding column_of column_after
-  column-more =
-      ap (λ (n : ℕ). column_after 1 (take n s)) (add-one i) ∙ ap (column_after 1) (take-suc s i 0 h) ∙ column-append 1 (take i s) (get_or s i 0 ∷ [])
-
-  pub column-next : get_or s i 0 ≡ lf → column_of s (i + 1) ≡ 1
-  column-next e = column-more ∙ ap (λ t. pick t 1 (column_of s i + 1)) (eq-eqb (get_or s i 0) lf e)
-
-  pub column-same : (get_or s i 0 ≡ lf → ⊥) → column_of s (i + 1) ≡ column_of s i + 1
-  column-same n = column-more ∙ ap (λ t. pick t 1 (column_of s i + 1)) (ne_eqb (get_or s i 0) lf n)
+pub column-counted : (s : List ℕ) → 1 + length (take (prefix_len (λ b. not (eqb b lf)) (reverse s)) (reverse s)) ≡ column_after 1 s
+column-counted s = ap (1 +◌) (length-prefix_len _ (reverse s)) ∙ column-back (reverse s) ∙ ap (column_after 1) (reverse-reverse s)
 
 -- line and column name a place
 

@@ -1,4 +1,5 @@
 -- The laws of pieces: where a byte first stands, and what follows it. Assumes nothing.
+use mathlib.Core.Logic.{◌≢◌}
 use mathlib.Core.Path.{◌≡◌, refl, sym, ap, ◌∙◌}
 use mathlib.Core.Bool.{Bool, true, false}
 use mathlib.Core.List.{List, [], ◌∷◌, ◌++◌}
@@ -6,25 +7,23 @@ use Prim.Native.Nat.{ℕ, zero, suc, ◌+◌, ◌-◌, ◌<◌, ◌≤◌}
 use native.Mathlib.Numerals.{add-one}
 use native.Mathlib.Omega.{arith}
 use lib.Dec.{eqb}
-use lib.ListN.{length, get_or, take, drop, drop_of_length-le, length-append, length-drop}
-use lib.Seq.{drop-cons, drop-drop, take_all, split_at}
+use lib.ListN.{length, get_or, take, drop, length-append, length-drop}
+use lib.Seq.{take_all, split_at}
+use Rattle.std.proofs.Common.{Option}
+use Rattle.std.specs.Option.{MatchOption, unwrap_or}
+use Rattle.std.specs.List.{AllWithin, HoldsAt}
+use Rattle.std.proofs.lemmas.Iterator.{index_from_first}
 use borrow.Author.Tests.{eq-eqb, ne_eqb, eqb-true, eqb-false}
 use Rattle.laws.specs.Choice.{pick}
 use Rattle.lines.specs.Line.{space, index_of, up_to, piece_length, after_spaces, part}
 
--- the search from the place i on
-module _ (b : ℕ) (s : List ℕ) (i : ℕ) where
-  pub index-end : length s ≤ i → index_of b (drop i s) ≡ 0
-  unfolding index_of
-  index-end h = rw (drop_of_length-le s h)
-
-  pub index-here : i < length s → get_or s i 0 ≡ b → index_of b (drop i s) ≡ 0
-  unfolding index_of
-  index-here h e = rw (drop-cons s i 0 h, eq-eqb (get_or s i 0) b e)
-
-  pub index_on : i < length s → (get_or s i 0 ≡ b → ⊥) → index_of b (drop i s) ≡ suc (index_of b (drop (i + 1) s))
-  unfolding index_of
-  index_on h n = rw (add-one i, drop-cons s i 0 h, ne_eqb (get_or s i 0) b n)
+-- what the search for a byte answers
+pub index-found : (b : ℕ) (s : List ℕ) (r : Option ℕ)
+    → MatchOption r (AllWithin (λ x. x ≢ b) s 0 (length s)) (λ i. (i < length s) × HoldsAt (λ x. x ≡ b) s i × AllWithin (λ x. x ≢ b) s 0 i)
+    → index_of b s ≡ unwrap_or r (length s)
+unfolding index_of
+index-found b s r h =
+    index_from_first (index_of b) (λ x. x ≡ b) (λ x. x ≢ b) refl (λ x xs e. rw (eq-eqb x b e)) (λ x xs n. rw (ne_eqb x b n, add-one)) s r h
 
 pub index-within : (b : ℕ) (s : List ℕ) → index_of b s ≤ length s
 unfolding index_of
@@ -68,20 +67,19 @@ module _ (b : ℕ) (s : List ℕ) (at n : ℕ) (e : n ≡ piece_length b (take (
   pub step-some : at < length s → 0 < n
   step-some h = omega (arith, piece-at, piece-some b (drop at s) (omega (arith, length-drop at s)))
 
--- one space more: of k, i were passed, up to the place at
-pub step-on : (line : List ℕ) (k i at n : ℕ) → n ≡ piece_length space (take (length line - at) (drop at line)) → i < k
-    → after_spaces (k - i) (drop at line) ≡ after_spaces (k - (i + 1)) (drop (at + n) line)
+-- one space more: of k, i were passed, and `rest` follows them
+pub step-on : (rest : List ℕ) (k i n : ℕ) → n ≡ piece_length space rest → i < k
+    → after_spaces (k - i) rest ≡ after_spaces (k - (i + 1)) (take (length rest - n) (drop n rest))
 unfolding after_spaces
-step-on line k i at n e h =
+step-on rest k i n e h =
     let z : k - i ≡ suc (k - (i + 1)) = omega arith in
-    ap (λ (m : ℕ). after_spaces m (drop at line)) z
-    ∙ ap (after_spaces (k - (i + 1))) (ap (λ (m : ℕ). drop m (drop at line)) (sym (piece-at space line at n e)) ∙ drop-drop n at line)
+    ap (λ (m : ℕ). after_spaces m rest) z ∙ ap (after_spaces (k - (i + 1))) (ap (λ (m : ℕ). drop m rest) (sym e) ∙ sym (rest-is rest n))
 
-pub step-all : (line : List ℕ) (k i at : ℕ) → k ≤ i → after_spaces (k - i) (drop at line) ≡ take (length line - at) (drop at line)
+pub step-none : (rest : List ℕ) (k i : ℕ) → k ≤ i → rest ≡ after_spaces (k - i) rest
 unfolding after_spaces
-step-all line k i at h =
-    let z : k - i ≡ 0 = omega arith in
-    ap (λ (m : ℕ). after_spaces m (drop at line)) z ∙ sym (rest-is line at)
+step-none rest k i h =
+    let z : 0 ≡ k - i = omega arith in
+    ap (λ (m : ℕ). after_spaces m rest) z
 
 -- where there is one, the byte stands at its place
 index-hit : (b : ℕ) (s : List ℕ) → index_of b s < length s → get_or s (index_of b s) 0 ≡ b

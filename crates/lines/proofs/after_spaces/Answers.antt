@@ -1,30 +1,23 @@
 -- `lines::after_spaces`: what is to be left stays the same with each space. Assumes nothing.
-use mathlib.Core.Path.{◌≡◌, sym, ap, ◌∙◌}
-use Prim.Native.Nat.{ℕ, ◌-◌}
-use native.Mathlib.Omega.{arith}
+use Rattle.std.proofs.Common.{◌≡◌, ℕ, ◌-◌, ◌∙◌, sym, ap, arith}
 use Rattle.lines.specs.Line.{space, after_spaces}
-use Rattle.lines.proofs.Pieces.{step-within, step-on, step-all}
+use Rattle.lines.proofs.Pieces.{piece-within, step-on, step-none}
 use Rattle.lines.proofs.after_spaces.Goals as goal
 
-pub loop-i-init : goal.loop-i-init
-loop-i-init c =
+pub loop-init : goal.loop-init
+loop-init c =
     let args = c.args in
     let z : args.k ≡ args.k - 0 = omega arith in
-    (omega arith, ap (λ (m : ℕ). after_spaces m args.line.now) z)
+    ap (λ (m : ℕ). after_spaces m args.line.now) z
 
-pub overflow_add-at : goal.overflow_add-at
-overflow_add-at c =
-    let args = c.args in
-    record { fits = omega (arith, step-within space args.line.now c.loop-i.at _ c.piece_length-at.ensures c.loop-i.invariant.0) }
+pub slice_bounds-rest-count : goal.slice_bounds-rest-count
+slice_bounds-rest-count c = omega (arith, c.piece_length.ensures, piece-within space c.loop.rest.now)
 
-pub loop-i-preserved : goal.loop-i-preserved
-loop-i-preserved c =
-    let args = c.args in (
-      step-within space args.line.now c.loop-i.at _ c.piece_length-at.ensures c.loop-i.invariant.0,
-      c.loop-i.invariant.1 ∙ step-on args.line.now args.k c.loop-i.i c.loop-i.at _ c.piece_length-at.ensures c.loop-i-test.true,
-    )
+pub slice_bounds-rest-start : goal.slice_bounds-rest-start
+slice_bounds-rest-start c = omega (arith, c.piece_length.ensures, piece-within space c.loop.rest.now)
+
+pub loop-preserved : goal.loop-preserved
+loop-preserved c = c.loop.invariant ∙ step-on _ _ _ _ c.piece_length.ensures c.loop-test.true
 
 pub returns : goal.returns
-returns c =
-    let args = c.args in
-    sym (c.loop-i.invariant.1 ∙ step-all args.line.now args.k c.loop-i.i c.loop-i.at c.loop-i-test.false)
+returns c = step-none _ _ _ c.loop-test.false ∙ sym c.loop.invariant

@@ -1,12 +1,7 @@
 -- `lines::after_spaces`: what is to be left stays the same with each space. Assumes nothing.
-use mathlib.Core.Path.{◌≡◌}
-use Prim.Native.Nat.{◌≤◌, ◌-◌}
-use lib.ListN.{length, drop}
+use Rattle.std.proofs.Common.{◌≡◌, ◌-◌}
 use Rattle.lines.specs.Line.{after_spaces}
 use Rattle.lines.proofs.after_spaces.Given as goal
 
-abbrev pub invariant-loop-i : goal.invariant-loop-i
-invariant-loop-i l = (l.at ≤ length l.line) × (after_spaces l.k l.line ≡ after_spaces (l.k - l.i) (drop l.at l.line))
-
-abbrev pub decreases-loop-i : goal.decreases-loop-i
-decreases-loop-i l = l.k - l.i
+abbrev pub invariant-loop : goal.invariant-loop
+invariant-loop l = after_spaces l.k l.line ≡ after_spaces (l.k - l.counter) l.rest

@@ -1,26 +1,18 @@
--- `lines::column_of`: so far, the column of the place reached. Assumes nothing.
-use mathlib.Core.Path.{◌≡◌, sym, ap, ◌∙◌}
-use Prim.Native.Nat.{◌+◌, ◌-◌}
-use native.Mathlib.Omega.{arith}
+-- `lines::column_of`: one column more than there are bytes between the last line end and the place. Assumes nothing.
+use Rattle.std.proofs.Common.{arith, rules, tests, eqb, not, take}
+use Rattle.std.proofs.lemmas.Iterator.Adapters.{YieldsList-from_rev_slice}
+use Rattle.std.proofs.lemmas.Iterator.Consumers.{YieldsList-at, count_from_yields_List}
+use Rattle.std.proofs.lemmas.Iterator.Search.{YieldsList-from_take_while}
 use Rattle.lines.specs.Line.{column_of}
-use Rattle.lines.proofs.Ends.{column-first, column-next, column-same}
+use Rattle.lines.proofs.Ends.{column-counted}
 use Rattle.lines.proofs.column_of.Goals as goal
-use Rattle.lines.proofs.column_of.Goals.{then-text-i-eq10, else-text-i-eq10}
-
-pub loop-i-init : goal.loop-i-init
-loop-i-init c = (omega arith, omega arith, sym (column-first _))
-
-pub overflow_add-column : goal.overflow_add-column
-overflow_add-column c = record { fits = omega (arith, c.well_formed.0.1) }
-
-pub loop-i-preserved : goal.loop-i-preserved
-loop-i-preserved c =
-    elim c.if-text-i-eq10.branch [
-      | then-text-i-eq10 w ↦ (omega arith, omega (arith, w.column-is), w.column-is ∙ sym (column-next _ _ (omega arith) w.if-text-i-eq10.true))
-      | else-text-i-eq10 w ↦ (omega arith, omega (arith, w.column-is), w.column-is ∙ ap (◌+ 1) c.loop-i.invariant.2 ∙ sym (column-same _ _ (omega arith) w.if-text-i-eq10.false))
-    ]
 
 pub returns : goal.returns
+unfolding column_of
 returns c =
-    let e : c.loop-i.i ≡ c.args.place = omega arith in
-    c.loop-i.invariant.2 ∙ ap (column_of _) e
+    let before = take c.args.place c.args.text.now in
+    let counted =
+    count_from_yields_List c.take_while-since_end.result c.count.result c.count.ensures.ran
+    (YieldsList-from_take_while _ (λ b. not (eqb b 10)) (YieldsList-at c.take_while-since_end.ensures.source (YieldsList-from_rev_slice before cc))
+    c.take_while-since_end.ensures.closure c.take_while-since_end.ensures.done (λ x r q k. search (rules, tests))) in
+    omega (arith, counted, column-counted before)

@@ -1,14 +1,12 @@
--- `lines::index_of`: where the byte stands stays the same with each byte passed. Assumes nothing.
-use Prim.Native.Nat.{◌-◌}
-use native.Mathlib.Omega.{arith}
-use Rattle.lines.proofs.Pieces.{index-end, index-here, index_on}
+-- `lines::index_of`: what the search finds. Assumes nothing.
+use Rattle.std.proofs.Common.{◌≡◌, ◌≢◌, ◌∙◌, sym, rules, tests}
+use Rattle.std.proofs.lemmas.Iterator.{IsFirst-from_position, YieldsList-from_slice}
+use Rattle.lines.proofs.Pieces.{index-found}
 use Rattle.lines.proofs.index_of.Goals as goal
 
-pub returns-then-s-i : goal.returns-then-s-i
-returns-then-s-i c = omega (arith, index-here _ c.args.s.now _ c.loop-i-test.true c.if-s-i.true)
-
-pub loop-i-preserved : goal.loop-i-preserved
-loop-i-preserved c = omega (arith, index_on _ c.args.s.now _ c.loop-i-test.true c.if-s-i.false)
-
 pub returns : goal.returns
-returns c = omega (arith, index-end c.args.b c.args.s.now _ c.loop-i-test.false)
+returns c =
+    let a = c.args in
+    let found = IsFirst-from_position _ _ c.position.result (λ x. x ≡ a.b) (λ x. x ≢ a.b) c.position.ensures.ran (YieldsList-from_slice a.s.now cc)
+    (λ x q k. search (rules, tests)) (λ x q k. search (rules, tests)) in
+    c.unwrap_or.ensures ∙ sym (index-found a.b a.s.now c.position.result found)

@@ -1,26 +1,16 @@
--- `lines::line_of`: so far, the line of the place reached. Assumes nothing.
-use mathlib.Core.Path.{◌≡◌, sym, ap, ◌∙◌}
-use Prim.Native.Nat.{◌+◌, ◌-◌}
-use native.Mathlib.Omega.{arith}
+-- `lines::line_of`: one line more than there are line ends before the place. Assumes nothing.
+use Rattle.std.proofs.Common.{◌∙◌, arith, rules, tests, eqb, take}
+use Rattle.std.proofs.lemmas.Iterator.{YieldsList-from_slice}
+use Rattle.std.proofs.lemmas.Iterator.Consumers.{YieldsList-from_filter, count_from_yields_List}
 use Rattle.lines.specs.Line.{line_of}
-use Rattle.lines.proofs.Ends.{line_first, line-next, line_same}
+use Rattle.lines.proofs.Ends.{ends-filter}
 use Rattle.lines.proofs.line_of.Goals as goal
-use Rattle.lines.proofs.line_of.Goals.{then-text-i-eq10, else-text-i-eq10}
-
-pub loop-i-init : goal.loop-i-init
-loop-i-init c = (omega arith, omega arith, sym (line_first _))
-
-pub overflow_add-line : goal.overflow_add-line
-overflow_add-line c = record { fits = omega (arith, c.well_formed.0.1) }
-
-pub loop-i-preserved : goal.loop-i-preserved
-loop-i-preserved c =
-    elim c.if-text-i-eq10.branch [
-      | then-text-i-eq10 w ↦ (omega arith, omega (arith, w.line-is), w.line-is ∙ ap (◌+ 1) c.loop-i.invariant.2 ∙ sym (line-next _ _ (omega arith) w.if-text-i-eq10.true))
-      | else-text-i-eq10 w ↦ (omega arith, omega (arith, w.line-is), w.line-is ∙ c.loop-i.invariant.2 ∙ sym (line_same _ _ (omega arith) w.if-text-i-eq10.false))
-    ]
 
 pub returns : goal.returns
+unfolding line_of
 returns c =
-    let e : c.loop-i.i ≡ c.args.place = omega arith in
-    c.loop-i.invariant.2 ∙ ap (line_of _) e
+    let before = take c.args.place c.args.text.now in
+    let counted =
+    count_from_yields_List c.filter.result c.count.result c.count.ensures.ran
+    (YieldsList-from_filter _ (λ b. eqb b 10) (YieldsList-from_slice before cc) c.filter.ensures.closure (λ x r q k. search (rules, tests))) in
+    omega (arith, counted ∙ ends-filter before)

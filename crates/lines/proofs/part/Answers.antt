@@ -10,10 +10,10 @@ use Rattle.lines.proofs.part.Goals as goal
 pub slice_bounds-result-end : goal.slice_bounds-result-end
 slice_bounds-result-end c =
     let rest = c.after_spaces-rest.result.now in
-    sym (length-take-le _ rest (omega (arith, c.index_of-end.ensures, index-within space rest)))
+    sym (length-take-le _ rest (omega (arith, c.index_of.ensures, index-within space rest)))
 
 pub returns : goal.returns
 unfolding part
 returns c =
     let e = c.after_spaces-rest.ensures in
-    λ i. take ((c.index_of-end.ensures ∙ ap (index_of space) e) i) (e i)
+    λ i. take ((c.index_of.ensures ∙ ap (index_of space) e) i) (e i)

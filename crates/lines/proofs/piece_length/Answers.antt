@@ -17,7 +17,7 @@ overflow_add-result c =
     let args = c.args in
     record { fits = omega (arith, c.index_of-end.ensures, index-within args.b args.s.now, c.if-end-s.false) }
 
-pub returns : goal.returns
+pub returns-else-end-s : goal.returns-else-end-s
 unfolding piece_length
-returns c =
+returns-else-end-s c =
     rw (ne_eqb _ _ (λ e. c.if-end-s.false (c.index_of-end.ensures ∙ e))) (add-one _ ∙ ap suc c.index_of-end.ensures)
