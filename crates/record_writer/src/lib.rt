@@ -12,7 +12,7 @@ ghost use Rattle.record_writer.specs.Written.{write_refusal, record_written_as, 
 use fields::{Asked, is_algorithm, is_slot_number, rights_refusal};
 use record_text::use_word;
 use refusals::Refusal;
-use writing::{digit_count, put_bytes, put_hex, put_line, put_word_line};
+use writing::{digit_count, put_bytes, put_hex, put_line};
 
 // The line of a key.
 fn put_key(buffer: &mut [u8], at: usize, key: [u8; 24]) -> usize
@@ -66,13 +66,13 @@ fn put_record(buffer: &mut [u8], number: u64, asked: Asked, key: [u8; 24]) -> us
     let first = put_bytes(buffer, 0, b"form=2\n");
     let version = put_line(buffer, first, b"number=", number);
     let algorithm = put_line(buffer, version, b"version=", asked.version as u64);
-    let usage = put_word_line(
+    let usage = put_line(
         buffer,
         algorithm,
         b"alg=",
         algorithms::name(asked.algorithm),
     );
-    let side = put_word_line(buffer, usage, b"use=", use_word(asked.usage));
+    let side = put_line(buffer, usage, b"use=", use_word(asked.usage));
     put_last(buffer, side, asked, key)
 }
 

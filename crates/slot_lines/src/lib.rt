@@ -9,7 +9,7 @@ ghost use Rattle.slot_lines.specs.Lines.{codes_text, slot_line, slot_text, slot_
 use fields::Fields;
 use record_text::use_word;
 use slots::{Slot, is_filled};
-use writing::{put_item, put_line, put_word_item};
+use writing::{put_item, put_line};
 
 // The codes, which end a line.
 fn put_codes(buffer: &mut [u8], at: usize, f: Fields) -> usize
@@ -30,13 +30,13 @@ fn put_slot_line(buffer: &mut [u8], at: usize, number: u64, f: Fields) -> usize
     let value = f.version as u64;
     let version = put_item(buffer, at, b"number=", number);
     let algorithm = put_item(buffer, version, b" version=", value);
-    let usage = put_word_item(
+    let usage = put_item(
         buffer,
         algorithm,
         b" alg=",
         algorithms::name(f.algorithm as u64),
     );
-    let side = put_word_item(buffer, usage, b" use=", use_word(f.usage as u64));
+    let side = put_item(buffer, usage, b" use=", use_word(f.usage as u64));
     put_codes(buffer, side, f)
 }
 

@@ -6,6 +6,8 @@ use Prim.Native.Nat.{ℕ, zero, suc, ◌+◌, ◌*◌, ◌≤◌, ◌<◌, ◌/�
 use Prim.Native.String.{String}
 use native.Mathlib.Nat.{pow-suc}
 use native.Mathlib.Omega.{arith}
+use Rattle.std.proofs.Common.{Option, None, Some}
+use Rattle.std.specs.Option.{IfNone, IfSome, unwrap_or}
 use lib.ListN.{length, length-append}
 use borrow.Author.Tests.{lt-ltb, le-ltb}
 use Rattle.laws.proofs.Cases.{lt-or-le}
@@ -58,6 +60,23 @@ digits-fit (suc k) n h =
     ⊎_elim (λ l. omega (arith, length-one n l))
     (λ l. omega (arith, length-ten n l, digits-fit k (n / 10) (omega arith)))
     (lt-or-le n 10)
+
+ten-power : (k : ℕ) → 0 < 10 ^ k
+ten-power zero = omega arith
+ten-power (suc k) = omega (arith, pow-suc 10 k, ten-power k)
+
+-- and one of ten to the power k or more has k + 1 or more
+digits-some : (k n : ℕ) → 10 ^ k ≤ n → suc k ≤ length (digits n)
+digits-some zero n h = length_some n
+digits-some (suc k) n h =
+    let e = pow-suc 10 k in
+    ⊎_elim (λ l. absurd (omega (arith, ten-power k))) (λ l. omega (arith, length-ten n l, digits-some k (n / 10) (omega arith))) (lt-or-le n 10)
+
+-- counted by the logarithm
+pub digits-counted : (n : ℕ) (log : Option ℕ) → IfNone log (n ≡ 0) → IfSome log (λ k. 10 ^ k ≤ n) → IfSome log (λ k. n < 10 * 10 ^ k)
+    → unwrap_or log 0 + 1 ≡ length (digits n)
+digits-counted n None z h l = omega (arith, length-one n (omega arith))
+digits-counted n (Some k) z h l = omega (arith, digits-some k n h, digits-fit k n (omega (arith, pow-suc 10 k)))
 
 pub item-length : (name : String) (value rest : List ℕ) → length (item name value ++ rest) ≡ length (ascii name) + (length value + length rest)
 item-length name value rest = omega (arith, length-append (item name value) rest, length-append (ascii name) value)

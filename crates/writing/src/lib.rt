@@ -1,7 +1,7 @@
 // Writers of text: given bytes, decimal and hex digits, lines. Each puts a text into the buffer from a place on, and answers with the place at which it ends.
 #![tactic(auto)]
 
-ghost use Rattle.std.specs.Prelude.{◌≡◌, [], ◌∷◌, ◌++◌, ◌<◌, length};
+ghost use Rattle.std.specs.Prelude.{◌≡◌, List, [], ◌∷◌, ◌++◌, ℕ, ◌<◌, length};
 ghost use Rattle.writing.specs.Text.{lf, digits, hex_digit, hex_text};
 ghost use Rattle.writing.specs.Writing.{Room, Put};
 
@@ -10,26 +10,16 @@ pub fn put_bytes<'a>(buffer: &'a mut [u8], at: usize, bytes: &'a [u8]) -> usize
     requires { Room buffer.old at bytes.now }
     ensures { Put buffer.old at bytes.now buffer.new result }
 {
-    let mut i = 0;
-    while i < bytes.len() {
-        let b = bytes[i];
-        buffer[at + i] = b;
-        i += 1;
-    }
-    at + i
+    let end = at + bytes.len();
+    buffer[at..end].copy_from_slice(bytes);
+    end
 }
 
 // How many digits a number has.
 pub fn digit_count(n: u64) -> usize
     ensures { result ≡ length (digits n) }
 {
-    let mut count = 1;
-    let mut left = n;
-    while 10 <= left {
-        left /= 10;
-        count += 1;
-    }
-    count
+    n.checked_ilog10().unwrap_or(0) as usize + 1
 }
 
 // The digits of a number, the last one first.
@@ -38,50 +28,56 @@ pub fn put_digits(buffer: &mut [u8], at: usize, n: u64) -> usize
     ensures { Put buffer.old at (digits n) buffer.new result }
 {
     let end = at + digit_count(n);
-    let mut i = end - 1;
     let mut left = n;
-    while 10 <= left {
-        buffer[i] = 48 + ((left % 10) as u8);
+    for i in (at..end).rev() {
+        buffer[i] = b'0' + (left % 10) as u8;
         left /= 10;
-        i -= 1;
     }
-    buffer[i] = 48 + (left as u8);
     end
 }
 
-// A name and a number.
-pub fn put_item<'a>(buffer: &'a mut [u8], at: usize, name: &'a [u8], n: u64) -> usize
-    requires { Room buffer.old at (name.now ++ digits n) }
-    ensures { Put buffer.old at (name.now ++ digits n) buffer.new result }
-{
-    let value = put_bytes(buffer, at, name);
-    put_digits(buffer, value, n)
+// A value that is put as a text.
+pub trait Shown {
+    ghost shown: { Self → List ℕ };
+
+    fn put(self, buffer: &mut [u8], at: usize) -> usize
+        requires { Room buffer.old at (shown self) }
+        ensures { Put buffer.old at (shown self) buffer.new result };
 }
 
-// A name and a word.
-pub fn put_word_item<'a>(buffer: &'a mut [u8], at: usize, name: &'a [u8], word: [u8; 4]) -> usize
-    requires { Room buffer.old at (name.now ++ word) }
-    ensures { Put buffer.old at (name.now ++ word) buffer.new result }
-{
-    let value = put_bytes(buffer, at, name);
-    put_bytes(buffer, value, &word)
+// A number by its digits.
+impl Shown for u64 {
+    ghost shown = { digits };
+
+    fn put(self, buffer: &mut [u8], at: usize) -> usize {
+        put_digits(buffer, at, self)
+    }
 }
 
-// A line with a number.
-pub fn put_line<'a>(buffer: &'a mut [u8], at: usize, name: &'a [u8], n: u64) -> usize
-    requires { Room buffer.old at (name.now ++ (digits n ++ (lf ∷ []))) }
-    ensures { Put buffer.old at (name.now ++ (digits n ++ (lf ∷ []))) buffer.new result }
-{
-    let end = put_item(buffer, at, name, n);
-    put_bytes(buffer, end, b"\n")
+// A word by its bytes.
+impl Shown for [u8; 4] {
+    ghost shown = { λ word. word };
+
+    fn put(self, buffer: &mut [u8], at: usize) -> usize {
+        put_bytes(buffer, at, &self)
+    }
 }
 
-// A line with a word.
-pub fn put_word_line<'a>(buffer: &'a mut [u8], at: usize, name: &'a [u8], word: [u8; 4]) -> usize
-    requires { Room buffer.old at (name.now ++ (word ++ (lf ∷ []))) }
-    ensures { Put buffer.old at (name.now ++ (word ++ (lf ∷ []))) buffer.new result }
+// A name and a value.
+pub fn put_item<'a, V: Shown>(buffer: &'a mut [u8], at: usize, name: &'a [u8], value: V) -> usize
+    requires { Room buffer.old at (name.now ++ V.shown value) }
+    ensures { Put buffer.old at (name.now ++ V.shown value) buffer.new result }
 {
-    let end = put_word_item(buffer, at, name, word);
+    let named = put_bytes(buffer, at, name);
+    value.put(buffer, named)
+}
+
+// A line with a value.
+pub fn put_line<'a, V: Shown>(buffer: &'a mut [u8], at: usize, name: &'a [u8], value: V) -> usize
+    requires { Room buffer.old at (name.now ++ (V.shown value ++ (lf ∷ []))) }
+    ensures { Put buffer.old at (name.now ++ (V.shown value ++ (lf ∷ []))) buffer.new result }
+{
+    let end = put_item(buffer, at, name, value);
     put_bytes(buffer, end, b"\n")
 }
 
@@ -89,10 +85,7 @@ fn hex_digit(d: u8) -> u8
     requires { d < 16 }
     ensures { result ≡ hex_digit d }
 {
-    if d < 10 {
-        return 48 + d;
-    }
-    87 + d
+    if d < 10 { b'0' + d } else { b'a' + (d - 10) }
 }
 
 // A byte by two hex digits.
@@ -100,9 +93,7 @@ fn put_byte(buffer: &mut [u8], at: usize, b: u8) -> usize
     requires { Room buffer.old at (hex_text (b ∷ [])) }
     ensures { Put buffer.old at (hex_text (b ∷ [])) buffer.new result }
 {
-    buffer[at] = hex_digit(b / 16);
-    buffer[at + 1] = hex_digit(b % 16);
-    at + 2
+    put_bytes(buffer, at, &[hex_digit(b / 16), hex_digit(b % 16)])
 }
 
 // Bytes by two hex digits each.
@@ -111,11 +102,8 @@ pub fn put_hex<'a>(buffer: &'a mut [u8], at: usize, bytes: &'a [u8]) -> usize
     ensures { Put buffer.old at (hex_text bytes.now) buffer.new result }
 {
     let mut end = at;
-    let mut i = 0;
-    while i < bytes.len() {
-        let next = put_byte(buffer, end, bytes[i]);
-        end = next;
-        i += 1;
+    for &b in bytes {
+        end = put_byte(buffer, end, b);
     }
     end
 }

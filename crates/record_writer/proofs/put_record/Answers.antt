@@ -21,32 +21,32 @@ unfolding form_text lines_text
 put_line-algorithm-requires c =
     room-first _ (room-then c.put_line-version.ensures (room-then c.put_bytes-first.ensures c.requires))
 
-pub put_word_line-usage-requires : goal.put_word_line-usage-requires
+pub put_line-usage-requires : goal.put_line-usage-requires
 unfolding form_text lines_text
-put_word_line-usage-requires c =
+put_line-usage-requires c =
     room_as (sym (ap (line_text "alg=") c.name.ensures))
     (room-first _ (room-then c.put_line-algorithm.ensures (room-then c.put_line-version.ensures (room-then c.put_bytes-first.ensures c.requires))))
 
-pub put_word_line-side-requires : goal.put_word_line-side-requires
+pub put_line-side-requires : goal.put_line-side-requires
 unfolding form_text lines_text
-put_word_line-side-requires c =
-    let p3 = put_as (ap (line_text "alg=") c.name.ensures) c.put_word_line-usage.ensures in
+put_line-side-requires c =
+    let p3 = put_as (ap (line_text "alg=") c.name.ensures) c.put_line-usage.ensures in
     room_as (sym (ap (line_text "use=") c.use_word.ensures))
     (room-first _ (room-then p3 (room-then c.put_line-algorithm.ensures (room-then c.put_line-version.ensures (room-then c.put_bytes-first.ensures c.requires)))))
 
 pub put_last-requires : goal.put_last-requires
 unfolding form_text lines_text
 put_last-requires c =
-    let p3 = put_as (ap (line_text "alg=") c.name.ensures) c.put_word_line-usage.ensures in
-    let p4 = put_as (ap (line_text "use=") c.use_word.ensures) c.put_word_line-side.ensures in
+    let p3 = put_as (ap (line_text "alg=") c.name.ensures) c.put_line-usage.ensures in
+    let p4 = put_as (ap (line_text "use=") c.use_word.ensures) c.put_line-side.ensures in
     room-then p4
     (room-then p3 (room-then c.put_line-algorithm.ensures (room-then c.put_line-version.ensures (room-then c.put_bytes-first.ensures c.requires))))
 
 pub returns : goal.returns
 unfolding form_text lines_text
 returns c =
-    let p3 = put_as (ap (line_text "alg=") c.name.ensures) c.put_word_line-usage.ensures in
-    let p4 = put_as (ap (line_text "use=") c.use_word.ensures) c.put_word_line-side.ensures in
+    let p3 = put_as (ap (line_text "alg=") c.name.ensures) c.put_line-usage.ensures in
+    let p4 = put_as (ap (line_text "use=") c.use_word.ensures) c.put_line-side.ensures in
     put_then c.put_bytes-first.ensures
     (put_then c.put_line-version.ensures (put_then c.put_line-algorithm.ensures (put_then p3 (put_then p4 c.put_last.ensures))))
 

@@ -36,9 +36,9 @@ put_item-algorithm-requires c =
     in
     next-room _ whole (left-next left-all c.put_item-version.ensures)
 
-pub put_word_item-usage-requires : goal.put_word_item-usage-requires
+pub put_item-usage-requires : goal.put_item-usage-requires
 unfolding slot_line
-put_word_item-usage-requires c =
+put_item-usage-requires c =
     let short : length (slot_line c.args.number c.args.f) ≤ longest_line =
     let pre = c.requires in line-short _ c.args.f pre.1 (search rules) pre.2
     in
@@ -48,16 +48,16 @@ put_word_item-usage-requires c =
     room_as (sym (ap (item " alg=") c.name.ensures))
     (next-room _ whole (left-next (left-next left-all c.put_item-version.ensures) c.put_item-algorithm.ensures))
 
-pub put_word_item-side-requires : goal.put_word_item-side-requires
+pub put_item-side-requires : goal.put_item-side-requires
 unfolding slot_line
-put_word_item-side-requires c =
+put_item-side-requires c =
     let short : length (slot_line c.args.number c.args.f) ≤ longest_line =
     let pre = c.requires in line-short _ c.args.f pre.1 (search rules) pre.2
     in
     let whole : Room c.args.buffer.now c.args.at (slot_line c.args.number c.args.f) =
     record { fits = omega (arith, short) }
     in
-    let p3 = put_as (ap (item " alg=") c.name.ensures) c.put_word_item-usage.ensures in
+    let p3 = put_as (ap (item " alg=") c.name.ensures) c.put_item-usage.ensures in
     room_as (sym (ap (item " use=") c.use_word.ensures))
     (next-room _ whole (left-next (left-next (left-next left-all c.put_item-version.ensures) c.put_item-algorithm.ensures) p3))
 
@@ -70,8 +70,8 @@ put_codes-requires c =
     let whole : Room c.args.buffer.now c.args.at (slot_line c.args.number c.args.f) =
     record { fits = omega (arith, short) }
     in
-    let p3 = put_as (ap (item " alg=") c.name.ensures) c.put_word_item-usage.ensures in
-    let p4 = put_as (ap (item " use=") c.use_word.ensures) c.put_word_item-side.ensures in
+    let p3 = put_as (ap (item " alg=") c.name.ensures) c.put_item-usage.ensures in
+    let p4 = put_as (ap (item " use=") c.use_word.ensures) c.put_item-side.ensures in
     left-room whole (left-next (left-next (left-next (left-next left-all c.put_item-version.ensures) c.put_item-algorithm.ensures) p3) p4)
 
 pub returns : goal.returns
@@ -80,8 +80,8 @@ returns c =
     let short : length (slot_line c.args.number c.args.f) ≤ longest_line =
     let pre = c.requires in line-short _ c.args.f pre.1 (search rules) pre.2
     in
-    let p3 = put_as (ap (item " alg=") c.name.ensures) c.put_word_item-usage.ensures in
-    let p4 = put_as (ap (item " use=") c.use_word.ensures) c.put_word_item-side.ensures in
+    let p3 = put_as (ap (item " alg=") c.name.ensures) c.put_item-usage.ensures in
+    let p4 = put_as (ap (item " use=") c.use_word.ensures) c.put_item-side.ensures in
     let put =
     left-last (left-next (left-next (left-next (left-next left-all c.put_item-version.ensures) c.put_item-algorithm.ensures) p3) p4) c.put_codes.ensures in
     (omega (arith, put.ends, short), put)

@@ -1,13 +1,9 @@
--- `writing::digit_count`: the digits counted and those left are all of them. Assumes nothing.
-use native.Mathlib.Omega.{arith}
-use Rattle.writing.proofs.Digits.{length-one, length-ten}
+-- `writing::digit_count`: one digit more than the logarithm. Assumes nothing.
+use Rattle.std.proofs.Common.{arith}
+use Rattle.writing.proofs.Digits.{digits-counted}
 use Rattle.writing.proofs.digit_count.Goals as goal
 
-pub loop-left-init : goal.loop-left-init
-loop-left-init c = (omega arith, omega arith)
-
-pub loop-left-preserved : goal.loop-left-preserved
-loop-left-preserved c = (omega arith, omega (arith, length-ten c.loop-left.left c.loop-left-test.true))
-
 pub returns : goal.returns
-returns c = omega (arith, length-one c.loop-left.left c.loop-left-test.false)
+returns c =
+    let log = c.checked_ilog10.ensures in
+    omega (arith, c.unwrap_or.ensures, digits-counted c.args.n c.checked_ilog10.result log.none log.power_le log.next_power_gt)

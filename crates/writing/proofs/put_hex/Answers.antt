@@ -1,24 +1,20 @@
 -- `writing::put_hex`: byte after byte. Assumes nothing.
-use Prim.Native.Nat.{◌-◌}
-use native.Mathlib.Omega.{arith}
 use Rattle.writing.specs.Text.{hex_text}
 use Rattle.writing.proofs.Puts.{put-none, put-length, hex-room, hex-next, hex-whole}
 use Rattle.writing.proofs.put_hex.Goals as goal
 
-pub loop-i-init : goal.loop-i-init
+pub loop-b-init : goal.loop-b-init
 unfolding hex_text
-loop-i-init c = (omega arith, put-none _ _)
+loop-b-init c = put-none _ _
 
-pub put_byte-next-requires : goal.put_byte-next-requires
-put_byte-next-requires c =
-    hex-room _ _ c.requires c.loop-i.invariant.1 _ c.loop-i-test.true
+pub put_byte-end-requires : goal.put_byte-end-requires
+put_byte-end-requires c = hex-room _ _ c.requires c.loop-b.invariant _ c.loop-b-test.true
 
-pub loop-i-preserved : goal.loop-i-preserved
-loop-i-preserved c =
-    (omega arith, hex-next _ _ c.requires c.loop-i.invariant.1 c.loop-i-test.true c.put_byte-next.ensures)
+pub loop-b-preserved : goal.loop-b-preserved
+loop-b-preserved c = hex-next _ _ c.requires c.loop-b.invariant c.loop-b-test.true c.put_byte-end.ensures
 
 pub returns : goal.returns
-returns c = hex-whole _ _ c.requires c.loop-i.invariant.1 c.loop-i-test.false
+returns c = hex-whole _ _ c.requires c.loop-b.invariant c.loop-b-test.false
 
 pub shape_of-buffer : goal.shape_of-buffer
 shape_of-buffer c = put-length (returns c)
