@@ -1,29 +1,22 @@
 // Bytes of a text by two lower-case hex digits each.
 #![tactic(auto)]
 
-ghost use Rattle.std.specs.Prelude.{◌≡◌};
+ghost use Rattle.std.specs.Prelude.{◌≡◌, ◌<◌, IfSome, unwrap_or};
 ghost use Rattle.forms.specs.Hexes.{hex_or, half_byte, byte};
 ghost use Rattle.reading.specs.Reading.{onward, answer};
 
 use reading::{Reading, good_to, wrong_at};
 
-// The value of a lower-case hex digit, or 16.
-pub fn hex_value(c: u8) -> u64
-    ensures { result ≡ hex_or c }
+// The value of a lower-case hex digit.
+pub fn hex_value(c: u8) -> Option<u8>
+    ensures value { unwrap_or result 16 ≡ hex_or c }
+    ensures small { IfSome result (λ v. v < 16) }
 {
-    if c < 48 {
-        return 16;
+    match c {
+        b'0'..=b'9' => Some(c - b'0'),
+        b'a'..=b'f' => Some(c - b'a' + 10),
+        _ => None,
     }
-    if c <= 57 {
-        return (c - 48) as u64;
-    }
-    if c < 97 {
-        return 16;
-    }
-    if c <= 102 {
-        return (c - 87) as u64;
-    }
-    16
 }
 
 // One hex digit.
@@ -37,11 +30,10 @@ fn read_half(s: &[u8], before: Reading) -> Reading
     if s.len() <= at {
         return wrong_at(at);
     }
-    let value = hex_value(s[at]);
-    if value == 16 {
-        return wrong_at(at);
+    match hex_value(s[at]) {
+        Some(value) => good_to(value as u64, at + 1),
+        None => wrong_at(at),
     }
-    good_to(value, at + 1)
 }
 
 // A byte by two hex digits.

@@ -1,5 +1,5 @@
 -- `hex_reading::read_half`: each answer by the tests that led to it. Assumes nothing.
-use mathlib.Core.Path.{sym, ap, ◌∙◌}
+use Rattle.std.proofs.Common.{◌∙◌, refl, sym, ap, arith}
 use Rattle.reading.specs.Reading.{answer}
 use Rattle.reading.proofs.Steps.{on-wrong, on-good, step_end, half-no, half-yes}
 use Rattle.hex_reading.proofs.read_half.Goals as goal
@@ -11,12 +11,13 @@ pub returns-then-s-at : goal.returns-then-s-at
 returns-then-s-at c =
     c.wrong_at-then-s-at.ensures ∙ sym (ap answer (on-good _ _ _ c.if-not-before.false ∙ step_end _ _ _ _ c.if-s-at.true))
 
-pub returns-then-value-eq16 : goal.returns-then-value-eq16
-returns-then-value-eq16 c =
-    c.wrong_at-then-value-eq16.ensures
-    ∙ sym (ap answer (on-good _ _ _ c.if-not-before.false ∙ half-no _ _ _ c.if-s-at.false c.hex_value-value.ensures c.if-value-eq16.true))
+pub returns-in-None : goal.returns-in-None
+returns-in-None c =
+    c.wrong_at-in-None.ensures
+    ∙ sym (ap answer (on-good _ _ _ c.if-not-before.false ∙ half-no _ _ 16 c.if-s-at.false c.in-None.ensures.value refl))
 
-pub returns : goal.returns
-returns c =
+pub returns-in-Some : goal.returns-in-Some
+returns-in-Some c =
     c.good_to.ensures
-    ∙ sym (ap answer (on-good _ _ _ c.if-not-before.false ∙ half-yes _ _ _ c.if-s-at.false c.hex_value-value.ensures c.if-value-eq16.false))
+    ∙ sym (ap answer (on-good _ _ _ c.if-not-before.false
+    ∙ half-yes _ _ c.in-Some.value c.if-s-at.false c.in-Some.ensures.value (λ e. omega (arith, c.in-Some.ensures.small))))
