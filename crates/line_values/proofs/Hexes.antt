@@ -1,33 +1,19 @@
 -- The laws of bytes by hex digits. Assumes nothing.
-use mathlib.Core.Path.{◌≡◌, ◌∙◌}
-use mathlib.Core.Bool.{true, false, not, ◌&&◌}
+use mathlib.Core.Path.{◌≡◌, refl, sym, ap}
+use mathlib.Core.Bool.{true, not, ◌&&◌}
 use mathlib.Core.List.{List, [], ◌∷◌}
-use Prim.Native.Nat.{ℕ, zero, suc, ◌+◌, ◌*◌, ◌/◌, ◌%◌, ◌<◌, ◌≤◌}
-use native.Mathlib.Numerals.{add-one}
+use Prim.Native.Nat.{ℕ, zero, suc, ◌+◌, ◌*◌, ◌/◌, ◌%◌, ◌<◌}
 use native.Mathlib.Omega.{arith}
 use lib.Dec.{eqb}
-use lib.ListN.{length, get_or, drop, drop_of_length-le}
-use lib.Seq.{drop-cons}
+use lib.ListN.{length, get_or}
+use Rattle.std.proofs.Common.{Option, None, Some}
+use Rattle.std.specs.Option.{IfSome, is_some, unwrap_or}
 use borrow.Author.Tests.{eqb-true}
 use Rattle.laws.proofs.Cases.{and_left, and_right}
 use Rattle.laws.proofs.Lists.{length-tabulate}
 use Rattle.forms.specs.Hexes.{is_hex, hex_value, hex_or}
-use Rattle.forms.proofs.Hexes.{value-small}
+use Rattle.forms.proofs.Hexes.{value-small, no_digit, a-digit}
 use Rattle.line_values.specs.Parts.{all_hex, are_bytes, bytes_of}
-
--- the digits from the place i on
-module _ (s : List ℕ) (i : ℕ) where
-  pub all_end : length s ≤ i → all_hex (drop i s) ≡ true
-  unfolding all_hex
-  all_end h = rw (drop_of_length-le s h)
-
-  pub all-no : i < length s → is_hex (get_or s i 0) ≡ false → all_hex (drop i s) ≡ false
-  unfolding all_hex
-  all-no h e = rw (drop-cons s i 0 h, e)
-
-  pub all_yes : i < length s → is_hex (get_or s i 0) ≡ true → all_hex (drop i s) ≡ all_hex (drop (i + 1) s)
-  unfolding all_hex
-  all_yes h e = rw (add-one i, drop-cons s i 0 h, e)
 
 hex-at : (s : List ℕ) (i : ℕ) → all_hex s ≡ true → i < length s → is_hex (get_or s i 0) ≡ true
 unfolding all_hex
@@ -36,11 +22,16 @@ hex-at (c ∷ s) zero e h = and_left (is_hex c) (all_hex s) e
 hex-at (c ∷ s) (suc i) e h = hex-at s i (and_right (is_hex c) (all_hex s) e) (omega arith)
 
 -- the value of a digit
-pub value-is : (c v : ℕ) → v ≡ hex_or c → is_hex c ≡ true → (v ≡ hex_value c) × (v < 16)
+pub value-is : (c : ℕ) (r : Option ℕ) → unwrap_or r 16 ≡ hex_or c → is_hex c ≡ true → r ≡ Some (hex_value c)
 unfolding hex_or
-value-is c v e h =
-    let z : v ≡ hex_value c = e ∙ rw h in
-    (z, omega (arith, value-small c h))
+value-is c None e h = absurd (omega (arith, rw h at e, value-small c h))
+value-is c (Some v) e h = ap Some (rw h at e)
+
+-- is there one?
+pub value-some : (c : ℕ) (r : Option ℕ) → unwrap_or r 16 ≡ hex_or c → IfSome r (λ v. v < 16) → is_some r ≡ is_hex c
+unfolding hex_or
+value-some c None e s = sym (no_digit c 16 e refl)
+value-some c (Some v) e s = sym (a-digit c v e (λ z. omega arith)).0
 
 -- a text of bytes
 module _ (s : List ℕ) (e : are_bytes s ≡ true) where
@@ -53,6 +44,10 @@ module _ (s : List ℕ) (e : are_bytes s ≡ true) where
 
   pub digit_at : (i : ℕ) → i < length s → is_hex (get_or s i 0) ≡ true
   digit_at i h = hex-at s i (and_right (eqb (length s % 2) 0) (all_hex s) some) h
+
+  -- both digits of a byte lie in the text
+  pub inside : (i : ℕ) → i < length s / 2 → 2 * i + 1 < length s
+  inside i h = omega (arith, even)
 
 pub length-bytes : (s : List ℕ) → length (bytes_of s) ≡ length s / 2
 unfolding bytes_of

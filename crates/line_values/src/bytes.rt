@@ -8,27 +8,14 @@ use hex_reading::hex_value;
 fn all_hex(s: &[u8]) -> bool
     ensures { result ≡ all_hex s.now }
 {
-    let mut i = 0;
-    while i < s.len() {
-        if hex_value(s[i]) == 16 {
-            return false;
-        }
-        i += 1;
-    }
-    true
+    s.iter().all(|&c| hex_value(c).is_some())
 }
 
 // Is the text one byte or more?
 pub fn are_bytes(s: &[u8]) -> bool
     ensures { result ≡ are_bytes s.now }
 {
-    if s.len() == 0 {
-        return false;
-    }
-    if s.len() % 2 != 0 {
-        return false;
-    }
-    all_hex(s)
+    !s.is_empty() && s.len() % 2 == 0 && all_hex(s)
 }
 
 // The byte of two digits.
@@ -36,16 +23,16 @@ fn byte_of(high: u8, low: u8) -> u8
     requires { (is_hex high ≡ true) × (is_hex low ≡ true) }
     ensures { result ≡ hex_value high * 16 + hex_value low }
 {
-    (hex_value(high) * 16 + hex_value(low)) as u8
+    hex_value(high).unwrap() * 16 + hex_value(low).unwrap()
 }
 
 // The bytes of a text, into a buffer of as many.
+#[tactic(auto, using(crate::proofs::Hexes::inside))]
 pub fn read_bytes(s: &[u8], buf: &mut [u8])
     requires { (are_bytes s.now ≡ true) × (length buf.old ≡ length s.now / 2) }
     ensures { buf.new ≡ bytes_of s.now }
 {
-    let n = buf.len();
-    for i in 0..n {
-        buf[i] = byte_of(s[2 * i], s[2 * i + 1]);
+    for (i, byte) in buf.iter_mut().enumerate() {
+        *byte = byte_of(s[2 * i], s[2 * i + 1]);
     }
 }

@@ -1,20 +1,16 @@
--- `bytes::all_hex`: what is to be answered stays the same with each digit. Assumes nothing.
-use mathlib.Core.Path.{refl, sym, ◌∙◌}
-use Prim.Native.Nat.{◌-◌}
-use Rattle.forms.proofs.Hexes.{no_digit, a-digit}
-use Rattle.line_values.proofs.Hexes.{all_end, all-no, all_yes}
+-- `bytes::all_hex`: each byte is tested. Assumes nothing.
+use Rattle.std.proofs.Common.{◌∙◌, refl, rules, ◌&&◌}
+use Rattle.std.specs.List.{list_all}
+use Rattle.std.proofs.lemmas.Iterator.{YieldsList-from_slice}
+use Rattle.std.proofs.lemmas.Iterator.Search.{all_from_yields_List}
+use Rattle.std.proofs.lemmas.List.Recursion.{same_from_clauses}
+use Rattle.forms.specs.Hexes.{is_hex}
+use Rattle.line_values.specs.Parts.{all_hex}
+use Rattle.line_values.proofs.Hexes.{value-some}
 use Rattle.line_values.proofs.bytes.all_hex.Goals as goal
 
-pub loop-i-init : goal.loop-i-init
-loop-i-init c = refl
-
-pub returns-then-hex_value-eq16 : goal.returns-then-hex_value-eq16
-returns-then-hex_value-eq16 c =
-    sym (c.loop-i.invariant ∙ all-no _ _ c.loop-i-test.true (no_digit _ _ c.hex_value.ensures c.if-hex_value-eq16.true))
-
-pub loop-i-preserved : goal.loop-i-preserved
-loop-i-preserved c =
-    c.loop-i.invariant ∙ all_yes _ _ c.loop-i-test.true (a-digit _ _ c.hex_value.ensures c.if-hex_value-eq16.false).0
-
 pub returns : goal.returns
-returns c = sym (c.loop-i.invariant ∙ all_end _ _ c.loop-i-test.false)
+unfolding all_hex
+returns c =
+    all_from_yields_List is_hex _ _ c.all.result c.all.ensures.ran (YieldsList-from_slice c.args.s.now cc) (λ x b q k. search (rules, value-some))
+    ∙ same_from_clauses (list_all is_hex) all_hex (λ x t. is_hex x && t) refl (λ _ _. refl) (λ _ _. refl) c.args.s.now
