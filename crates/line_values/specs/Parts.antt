@@ -1,13 +1,17 @@
 -- What a part says: a decimal number of 64 bits without leading zeros, or bytes by two lower-case hex digits each.
 -- Assumes nothing: these are definitions.
-use Rattle.std.specs.Prelude.{Bool, true, false, not, ◌&&◌, List, [], ◌∷◌, ◌++◌, ℕ, ◌+◌, ◌*◌, ◌/◌, ◌%◌, eqb, length, get_or}
+use Rattle.std.specs.Prelude.{Option, Some, None, Bool, true, false, not, ◌&&◌, List, [], ◌∷◌, ◌++◌, ℕ, ◌+◌, ◌*◌, ◌/◌, ◌%◌, eqb, length, get_or}
 use Rattle.laws.specs.Choice.{pick}
 use Rattle.laws.specs.Lists.{tabulate}
 use Rattle.writing.specs.Text.{lf}
 use Rattle.forms.specs.Form.{Outcome, found, wrong, read_at}
 use Rattle.forms.specs.Decimals.{decimal}
 use Rattle.forms.specs.Hexes.{is_hex, hex_value}
-use Rattle.line_values.specs.declared.number.Number.{Number}
+
+-- a number; or, of a text that is none, no number and 0
+pub record Number : Type 0 where
+  pub good : Bool
+  pub value : ℕ
 
 -- the largest number of 64 bits
 abbrev pub largest : ℕ
@@ -18,6 +22,11 @@ good_number n = record { good = true; value = n }
 
 abbrev pub no_number : Number
 no_number = record { good = false; value = 0 }
+
+-- a number that a text may have
+abbrev pub as_number : Option ℕ → Number
+as_number (Some n) = good_number n
+as_number None = no_number
 
 -- the number that was read, if that took so many bytes
 abbrev pub whole_number : ℕ → Outcome ℕ → Number
