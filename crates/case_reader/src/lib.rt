@@ -14,16 +14,14 @@ use lines::{after_spaces, part};
 fn is_number(line: &[u8], k: usize) -> bool
     ensures { result ≡ is_number k line.now }
 {
-    let n = read_number(part(line, k));
-    n.good
+    read_number(part(line, k)).is_some()
 }
 
 // The number that a part is, or 0.
 pub fn value(line: &[u8], k: usize) -> u64
     ensures { result ≡ (number_of (part k line.now)).value }
 {
-    let n = read_number(part(line, k));
-    n.value
+    read_number(part(line, k)).unwrap_or(0)
 }
 
 // How many bytes a part has.
