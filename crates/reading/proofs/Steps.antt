@@ -8,15 +8,18 @@ use native.Mathlib.Numerals.{add-one}
 use lib.Dec.{eqb, leb}
 use lib.ListN.{length, get_or, drop, drop_of_length-le}
 use lib.Seq.{drop-cons}
+use Rattle.std.proofs.Common.{Result, Ok, Err}
+use Rattle.std.specs.Result.{IsErrAnd}
 use borrow.Author.Tests.{lt-ltb, le-ltb, eq-eqb, ne_eqb, le-leb, lt-leb}
 use Rattle.laws.specs.Choice.{pick}
 use Rattle.laws.proofs.Cases.{lt-or-le, pick-taken, pick-left}
-use Rattle.reading.specs.declared.Reading.{Reading}
+use Rattle.reading.specs.declared.Found.{Found}
+use Rattle.reading.specs.declared.WrongAt.{WrongAt}
 use Rattle.writing.specs.Text.{lf}
 use Rattle.forms.specs.Form.{Form, done, next, Outcome, found, wrong, read_at, literal, ◌>>=◌}
 use Rattle.forms.specs.Decimals.{may_follow, after}
 use Rattle.forms.specs.Hexes.{hex_or, half_byte}
-use Rattle.reading.specs.Reading.{good_to, onward, answer}
+use Rattle.reading.specs.Reading.{Reading, reading_of, good_to, wrong_at, onward, answer}
 use Rattle.forms.proofs.Hexes.{no_digit, a-digit}
 use Rattle.forms.proofs.Decimals.{after_is, or_right}
 use Rattle.forms.proofs.Forms.{Spells, spelt, onto, both_read}
@@ -44,6 +47,21 @@ module _ {A : Type 0} (before : Reading) (f : Form A) (s : List ℕ) where
           ≡ onto (pick t (read_at f s before.place) (wrong before.place)) (λ v q. read_at (g v) s q)
       go true = both_read f g s before.place
       go false = refl
+
+-- the same, of what a reader answered
+module _ {A : Type 0} (f : Form A) (s : List ℕ) {r : Result Found WrongAt} where
+  pub on-ok : {v : Found} → r ≡ Ok v → onward (reading_of r) f s ≡ read_at f s v.place
+  unfolding onward
+  on-ok e = ap (λ x. onward (reading_of x) f s) e
+
+  pub on-err : {w : WrongAt} → r ≡ Err w → onward (reading_of r) f s ≡ wrong w.place
+  unfolding onward
+  on-err e = ap (λ x. onward (reading_of x) f s) e
+
+-- a wrong place that is passed on
+pub passed-on : (r : Result Found WrongAt) {w : WrongAt} → IsErrAnd r (λ y. y ≡ w) → reading_of r ≡ wrong_at w.place
+passed-on (Ok x) h = absurd h
+passed-on (Err y) h = ap (λ (x : WrongAt). wrong_at x.place) h
 
 -- from a place
 pub on-at : {A : Type 0} (f : Form A) (s : List ℕ) {a : Reading} {v p : ℕ} → a ≡ good_to v p → onward a f s ≡ read_at f s p

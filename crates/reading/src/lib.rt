@@ -1,76 +1,49 @@
 // Readers of text: given bytes, decimal numbers, words, hex digits. Each goes on after what was read before it, and passes on a wrong place that was found there.
 #![tactic(auto)]
 
-ghost use Rattle.std.specs.Prelude.{◌≡◌, ◌≤◌};
+ghost use Rattle.std.specs.Prelude.{◌≡◌, ◌≤◌, length};
 ghost use Rattle.forms.specs.Form.{done, read_at, literal, named};
 ghost use Rattle.forms.specs.Decimals.{is_digit, may_begin, may_follow, after, decimal};
 ghost use Rattle.forms.specs.Words.{one_of};
-ghost use Rattle.reading.specs.Reading.{good_to, wrong_at, onward, answer, further};
+ghost use Rattle.reading.specs.Reading.{onward, answer, reading_of, further};
 
-// What is read so far: the last value and the place after its text; or, once a byte is wrong, no value and the place of that byte.
-#[derive(Clone, Copy)]
-pub struct Reading {
-    pub good: bool,
+// What is read so far: the last value, and the place after its text.
+#[derive(Clone, Copy, Debug, PartialEq, Eq)]
+pub struct Found {
     pub value: u64,
     pub place: usize,
 }
 
-pub fn good_to(value: u64, place: usize) -> Reading
-    ensures { result ≡ good_to value place }
-{
-    Reading {
-        good: true,
-        value,
-        place,
-    }
+// The place of the first byte that is wrong.
+#[derive(Clone, Copy, Debug, PartialEq, Eq)]
+pub struct WrongAt {
+    pub place: usize,
 }
 
-pub fn wrong_at(place: usize) -> Reading
-    ensures { result ≡ wrong_at place }
-{
-    Reading {
-        good: false,
-        value: 0,
-        place,
-    }
-}
+pub type Reading = Result<Found, WrongAt>;
 
 // The given bytes.
 pub fn read_literal<'a>(s: &'a [u8], before: Reading, bytes: &'a [u8]) -> Reading
-    ensures { result ≡ answer (onward before (literal bytes.now) s.now) }
+    ensures { reading_of result ≡ answer (onward (reading_of before) (literal bytes.now) s.now) }
 {
-    let mut at = before.place;
-    if !before.good {
-        return wrong_at(at);
-    }
-    let mut i = 0;
-    while i < bytes.len() {
-        if s.len() <= at {
-            return wrong_at(at);
+    let mut place = before?.place;
+    for &b in bytes {
+        if s.len() <= place || s[place] != b {
+            return Err(WrongAt { place });
         }
-        if s[at] != bytes[i] {
-            return wrong_at(at);
-        }
-        at += 1;
-        i += 1;
+        place += 1;
     }
-    good_to(0, at)
-}
-
-fn is_digit(b: u8) -> bool
-    ensures { result ≡ is_digit b }
-{
-    48 <= b && b <= 57
+    Ok(Found { value: 0, place })
 }
 
 // May a number from `low` to `high` begin with the byte `b`?
 pub fn may_begin(low: u64, high: u64, b: u8) -> bool
     ensures { result ≡ may_begin low high b }
 {
-    if !is_digit(b) {
+    if !b.is_ascii_digit() {
         return false;
     }
-    let digit = (b - 48) as u64;
+    let digit = (b - b'0') as u64;
     low <= digit && digit <= high
 }
 
@@ -78,92 +51,73 @@ pub fn may_begin(low: u64, high: u64, b: u8) -> bool
 pub fn may_follow(high: u64, n: u64, b: u8) -> bool
     ensures { result ≡ may_follow high n b }
 {
-    if !is_digit(b) {
+    if !b.is_ascii_digit() || n == 0 {
         return false;
     }
-    if n == 0 {
-        return false;
-    }
-    let digit = (b - 48) as u64;
-    if high < digit {
-        return false;
-    }
-    n <= (high - digit) / 10
+    let digit = (b - b'0') as u64;
+    digit <= high && n <= (high - digit) / 10
 }
 
 // After digits of the value `n`: more digits, and LF.
 fn read_after(s: &[u8], at: usize, high: u64, n: u64) -> Reading
-    ensures { result ≡ answer (read_at (after high n) s.now at) }
+    requires { at ≤ length s.now }
+    ensures { reading_of result ≡ answer (read_at (after high n) s.now at) }
 {
     let mut value = n;
-    let mut i = at;
-    while i < s.len() {
+    for i in at..s.len() {
         let b = s[i];
-        let next = i + 1;
-        if b == 10 {
-            return good_to(value, next);
+        if b == b'\n' {
+            return Ok(Found {
+                value,
+                place: i + 1,
+            });
         }
         if !may_follow(high, value, b) {
-            return wrong_at(i);
+            return Err(WrongAt { place: i });
         }
-        value = value * 10 + ((b - 48) as u64);
-        i = next;
+        value = value * 10 + (b - b'0') as u64;
     }
-    wrong_at(i)
+    Err(WrongAt { place: s.len() })
 }
 
 // A number from `low` to `high`, ended by LF.
 pub fn read_decimal(s: &[u8], before: Reading, low: u64, high: u64) -> Reading
-    ensures { result ≡ answer (onward before (decimal low high) s.now) }
+    ensures { reading_of result ≡ answer (onward (reading_of before) (decimal low high) s.now) }
 {
-    let at = before.place;
-    if !before.good {
-        return wrong_at(at);
+    let place = before?.place;
+    if s.len() <= place || !may_begin(low, high, s[place]) {
+        return Err(WrongAt { place });
     }
-    if s.len() <= at {
-        return wrong_at(at);
-    }
-    let first = s[at];
-    if !may_begin(low, high, first) {
-        return wrong_at(at);
-    }
-    read_after(s, at + 1, high, (first - 48) as u64)
+    read_after(s, place + 1, high, (s[place] - b'0') as u64)
 }
 
 // A line with a number.
 pub fn read_line<'a>(s: &'a [u8], before: Reading, name: &'a [u8], low: u64, high: u64) -> Reading
-    ensures { result ≡ answer (onward before (named name.now (decimal low high)) s.now) }
+    ensures { reading_of result ≡ answer (onward (reading_of before) (named name.now (decimal low high)) s.now) }
 {
-    let named = read_literal(s, before, name);
-    read_decimal(s, named, low, high)
+    read_decimal(s, read_literal(s, before, name), low, high)
 }
 
 // The given bytes, for the value.
 fn read_word<'a>(s: &'a [u8], before: Reading, word: &'a [u8], value: u64) -> Reading
-    ensures { result ≡ answer (onward before (named word.now (done value)) s.now) }
+    ensures { reading_of result ≡ answer (onward (reading_of before) (named word.now (done value)) s.now) }
 {
-    let end = read_literal(s, before, word);
-    let at = end.place;
-    if !end.good {
-        return wrong_at(at);
-    }
-    good_to(value, at)
+    let end = read_literal(s, before, word)?;
+    Ok(Found {
+        value,
+        place: end.place,
+    })
 }
 
 // Of two readings from one place: the good one, or else the one that came further.
 fn further(a: Reading, b: Reading) -> Reading
-    ensures { result ≡ further a b }
+    ensures { reading_of result ≡ further (reading_of a) (reading_of b) }
 {
-    if a.good {
-        return a;
+    match (a, b) {
+        (Err(first), Err(second)) => { if first.place < second.place { b } else { a } }
+        (Err(_), Ok(_)) => b,
+        (Ok(_), _) => a,
     }
-    if b.good {
-        return b;
-    }
-    if a.place < b.place {
-        return b;
-    }
-    a
 }
 
 // One of three words, for a value and the two that follow it; and LF.
@@ -176,11 +130,11 @@ pub fn read_one_of(
     c: [u8; 4],
 ) -> Reading
     requires { first ≤ 5 }
-    ensures { result ≡ answer (onward before (one_of first a b c) s.now) }
+    ensures { reading_of result ≡ answer (onward (reading_of before) (one_of first a b c) s.now) }
 {
     let one = read_word(s, before, &a, first);
     let two = read_word(s, before, &b, first + 1);
     let three = read_word(s, before, &c, first + 2);
-    let word = further(one, further(two, three));
-    read_word(s, word, b"\n", word.value)
+    let word = further(one, further(two, three))?;
+    read_word(s, Ok(word), b"\n", word.value)
 }

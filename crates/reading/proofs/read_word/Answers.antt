@@ -1,15 +1,14 @@
 -- `reading::read_word`: the bytes, and then the value. Assumes nothing.
-use mathlib.Core.Path.{sym, ap, ◌∙◌}
-use Rattle.reading.specs.Reading.{answer}
-use Rattle.reading.proofs.Steps.{on-wrong, on-good, on_then, step-done}
+use Rattle.std.proofs.Common.{sym, ap, ◌∙◌}
+use Rattle.reading.specs.Reading.{answer, onward, reading_of}
+use Rattle.reading.proofs.Steps.{on_then, passed-on, step-done}
 use Rattle.reading.proofs.read_word.Goals as goal
 
-pub returns-then-not-end : goal.returns-then-not-end
-returns-then-not-end c =
-    c.wrong_at.ensures
-    ∙ sym (ap answer (on_then _ _ _ _ c.read_literal-end.ensures ∙ on-wrong _ _ _ c.if-not-end.true))
+pub returns-in_err-end : goal.returns-in_err-end
+unfolding onward
+returns-in_err-end c =
+    passed-on _ c.from_residual.ensures.1 ∙ sym (ap answer (on_then (reading_of c.args.before) _ _ c.args.s.now c.in_err-end.ensures))
 
 pub returns : goal.returns
-returns c =
-    c.good_to.ensures
-    ∙ sym (ap answer (on_then _ _ _ _ c.read_literal-end.ensures ∙ on-good _ _ _ c.if-not-end.false ∙ step-done _ _ _))
+unfolding onward
+returns c = sym (ap answer (on_then (reading_of c.args.before) _ _ c.args.s.now c.in_ok-end.ensures ∙ step-done _ _ _))
