@@ -3,9 +3,9 @@
 
 ghost use Rattle.std.specs.Prelude.{◌≡◌, ◌<◌, IfSome, unwrap_or};
 ghost use Rattle.forms.specs.Hexes.{hex_or, half_byte, byte};
-ghost use Rattle.reading.specs.Reading.{onward, answer};
+ghost use Rattle.reading.specs.Reading.{onward, answer, reading_of};
 
-use reading::{Reading, good_to, wrong_at};
+use reading::{Found, Reading, WrongAt};
 
 // The value of a lower-case hex digit.
 pub fn hex_value(c: u8) -> Option<u8>
@@ -21,30 +21,29 @@ pub fn hex_value(c: u8) -> Option<u8>
 
 // One hex digit.
 fn read_half(s: &[u8], before: Reading) -> Reading
-    ensures { result ≡ answer (onward before half_byte s.now) }
+    ensures { reading_of result ≡ answer (onward (reading_of before) half_byte s.now) }
 {
-    let at = before.place;
-    if !before.good {
-        return wrong_at(at);
+    let place = before?.place;
+    if s.len() <= place {
+        return Err(WrongAt { place });
     }
-    if s.len() <= at {
-        return wrong_at(at);
-    }
-    match hex_value(s[at]) {
-        Some(value) => good_to(value as u64, at + 1),
-        None => wrong_at(at),
+    match hex_value(s[place]) {
+        Some(value) => Ok(Found {
+            value: value as u64,
+            place: place + 1,
+        }),
+        None => Err(WrongAt { place }),
     }
 }
 
 // A byte by two hex digits.
 pub fn read_byte(s: &[u8], before: Reading) -> Reading
-    ensures { result ≡ answer (onward before byte s.now) }
+    ensures { reading_of result ≡ answer (onward (reading_of before) byte s.now) }
 {
-    let high = read_half(s, before);
-    let low = read_half(s, high);
-    let at = low.place;
-    if !low.good {
-        return wrong_at(at);
-    }
-    good_to(high.value * 16 + low.value, at)
+    let high = read_half(s, before)?;
+    let low = read_half(s, Ok(high))?;
+    Ok(Found {
+        value: high.value * 16 + low.value,
+        place: low.place,
+    })
 }
