@@ -6,11 +6,15 @@ use native.Mathlib.Numerals.{add-one}
 use native.Mathlib.Omega.{arith}
 use lib.ListN.{length, take, set}
 use lib.Seq.{take-suc-set, take_all}
-use Rattle.reading.specs.declared.Reading.{Reading}
+use Rattle.std.proofs.Common.{Result, Ok, Err}
+use Rattle.std.specs.Result.{IsErrAnd}
+use Rattle.reading.specs.declared.WrongAt.{WrongAt}
+use Rattle.record_reader.specs.declared.KeyFound.{KeyFound}
+use Rattle.record_reader.specs.Lines.{key_reading_of, no_key_at}
 use Rattle.writing.specs.Text.{ascii}
 use Rattle.forms.specs.Form.{Form, done, named, ◌>>=◌}
 use Rattle.forms.specs.Hexes.{byte, bytes}
-use Rattle.reading.specs.Reading.{onward, answer}
+use Rattle.reading.specs.Reading.{Reading, onward, answer}
 use Rattle.forms.proofs.Forms.{both-assoc}
 use Rattle.reading.proofs.Steps.{on_then}
 
@@ -29,6 +33,11 @@ rest_more k n =
 rest-none : (k : List ℕ) → key_rest k 0 ≡ named (ascii "\n") (done k)
 unfolding bytes ◌>>=◌
 rest-none k = ap (λ (l : List ℕ). named (ascii "\n") (done l)) (append-nil k)
+
+-- a wrong place that is passed on
+pub key-passed : (r : Result KeyFound WrongAt) {w : WrongAt} → IsErrAnd r (λ y. y ≡ w) → key_reading_of r ≡ no_key_at w.place
+key-passed (Ok x) h = absurd h
+key-passed (Err y) h = ap (λ (x : WrongAt). no_key_at x.place) h
 
 module _ (key : List ℕ) (i : ℕ) (before : Reading) (s : List ℕ) (size : length key ≡ 24) where
   -- one more byte

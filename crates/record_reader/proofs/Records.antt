@@ -11,16 +11,18 @@ use native.Mathlib.Omega.{arith}
 use borrow.Author.Tests.{leb-true, le-leb}
 use Rattle.fields.proofs.Ranges.{between-low, between-high}
 use Rattle.laws.specs.Choice.{pick}
-use Rattle.reading.specs.declared.Reading.{Reading}
-use Rattle.record_reader.specs.declared.KeyReading.{KeyReading}
-use Rattle.reading.specs.Reading.{onward, good_to, answer}
-use Rattle.record_reader.specs.Lines.{key_answer, use_form, algorithm_form, code_form, key_form}
+use Rattle.std.proofs.Common.{Result, Ok, Err}
+use Rattle.std.specs.Result.{IsErrAnd}
+use Rattle.reading.specs.declared.WrongAt.{WrongAt}
+use Rattle.record_reader.specs.declared.Record.{Record}
+use Rattle.reading.specs.Reading.{Reading, onward, answer}
+use Rattle.record_reader.specs.Lines.{KeyReading, key_answer, use_form, algorithm_form, code_form, key_form}
 use Rattle.writing.specs.Text.{ascii, digits, hex_text, line_text}
 use Rattle.record_text.specs.Text.{use_word, code_text, lines_text, form_text, InCode, Good}
 use Rattle.forms.specs.Form.{Form, done, Outcome, found, wrong, read_at, literal, line, ◌>>=◌}
 use Rattle.forms.specs.Decimals.{decimal}
-use Rattle.record_reader.specs.Record.{Entry, lines_form, record_form, opened}
-use Rattle.forms.proofs.Forms.{Spells, onto, Means, line-means, then-means, last-means}
+use Rattle.record_reader.specs.Record.{Entry, lines_form, record_form, opened, outcome_of}
+use Rattle.forms.proofs.Forms.{Spells, spelt, onto, Means, line-means, then-means, last-means}
 use Rattle.forms.proofs.Decimals.{decimal-means, between_is}
 use Rattle.record_reader.proofs.Lines.{use-means, algorithm-means, key-means}
 use Rattle.reading.proofs.Steps.{on_both, on-at, on_then, step-done}
@@ -181,6 +183,17 @@ record-means two =
       only = λ e w h. let r = m.only e w h in (is-good two e r.0.0, r.1);
       live = m.live;
     }
+
+-- the fields of a record that is read fit a slot
+pub small-read : (two : Bool) (s : List ℕ) (e : Entry) (place : ℕ) → read_at (record_form two) s 0 ≡ found e place → Small e.fields
+small-read two s e place q =
+    let r = spelt (record_form two) s 0 e place q in
+    small ((record-means two).only e r.text r.spells).0
+
+-- a wrong place that is passed on
+pub outcome-passed : (r : Result Record WrongAt) {w : WrongAt} → IsErrAnd r (λ y. y ≡ w) → outcome_of r ≡ wrong w.place
+outcome-passed (Ok x) h = absurd h
+outcome-passed (Err y) h = ap (λ (x : WrongAt). wrong x.place) h
 
 -- a key, and then what follows it
 key-then : {B : Type 0} (before : Reading) (f : Form (List ℕ)) (g : List ℕ → Form B) (s : List ℕ) {a : KeyReading} → a ≡ key_answer (onward before f s)

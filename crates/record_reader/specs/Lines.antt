@@ -1,5 +1,5 @@
 -- The lines of a record that are not numbers, and what the reader of a key answers. Assumes nothing: these are definitions.
-use Rattle.std.specs.Prelude.{List, Bool, true, false, ℕ, replicate}
+use Rattle.std.specs.Prelude.{Result, Ok, Err, List, Bool, true, false, ℕ, replicate}
 use Prim.Native.String.{String}
 use Rattle.laws.specs.Choice.{pick}
 use Rattle.algorithms.specs.Algorithm.{name_of}
@@ -9,7 +9,8 @@ use Rattle.forms.specs.Form.{Form, done, literal, line, Outcome, found, wrong, �
 use Rattle.forms.specs.Decimals.{decimal}
 use Rattle.forms.specs.Words.{one_of}
 use Rattle.forms.specs.Hexes.{bytes}
-use Rattle.record_reader.specs.declared.KeyReading.{KeyReading}
+use Rattle.reading.specs.declared.WrongAt.{WrongAt}
+use Rattle.record_reader.specs.declared.KeyFound.{KeyFound}
 
 -- SEND, RECV, BOTH
 unfoldable pub use_form : Form ℕ
@@ -31,6 +32,11 @@ key_form = do
   done key
 
 -- a key and the place after it; or, once a byte is wrong, no key and the place of that byte
+pub record KeyReading : Type 0 where
+  pub good : Bool
+  pub key : List ℕ
+  pub place : ℕ
+
 abbrev pub no_key : List ℕ
 no_key = replicate 24 0
 
@@ -43,3 +49,8 @@ no_key_at p = record { good = false; key = no_key; place = p }
 abbrev pub key_answer : Outcome (List ℕ) → KeyReading
 key_answer (found key p) = key_to key p
 key_answer (wrong p) = no_key_at p
+
+-- what the reader of a key answers, as that record
+abbrev pub key_reading_of : Result KeyFound WrongAt → KeyReading
+key_reading_of (Ok f) = key_to f.key f.place
+key_reading_of (Err w) = no_key_at w.place

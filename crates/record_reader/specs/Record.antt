@@ -1,13 +1,14 @@
 -- Reading a record (document 01, "Key records" and "Numbers an engineer sees"). What these answers come to, without the forms, is stated in the
 -- crate `records`. Assumes nothing: these are definitions.
-use Rattle.std.specs.Prelude.{Bool, true, false, List, ℕ, eqb, get_or}
+use Rattle.std.specs.Prelude.{Result, Ok, Err, Bool, true, false, List, ℕ, eqb, get_or}
 use Rattle.refusals.specs.Numbers as numbers
 use Rattle.fields.specs.Fields.{no_fields}
 use Rattle.fields.specs.declared.Fields.{Fields}
-use Rattle.record_reader.specs.declared.RecordRead.{RecordRead}
+use Rattle.record_reader.specs.declared.Record.{Record}
+use Rattle.record_reader.specs.declared.BadText.{BadText}
 use Rattle.writing.specs.Text.{ascii}
-use Rattle.reading.specs.declared.Reading.{Reading}
-use Rattle.reading.specs.Reading.{good_to, onward, answer}
+use Rattle.reading.specs.declared.WrongAt.{WrongAt}
+use Rattle.reading.specs.Reading.{Reading, good_to, onward, answer}
 use Rattle.lines.specs.Line.{line_of, column_of}
 use Rattle.forms.specs.Form.{Form, done, literal, Outcome, found, wrong, read_at, line, ◌>>=◌}
 use Rattle.forms.specs.Decimals.{decimal}
@@ -52,6 +53,16 @@ unfoldable pub opened : Bool → List ℕ → Reading
 opened true s = answer (onward (good_to 0 0) (literal (ascii "form=2\n")) s)
 opened false s = good_to 0 0
 
+-- a record and how many bytes it took; or refusal 15 with line and column of the first byte that is wrong, and zeros
+pub record RecordRead : Type 0 where
+  pub refusal : ℕ
+  pub line : ℕ
+  pub column : ℕ
+  pub used : ℕ
+  pub number : ℕ
+  pub fields : Fields
+  pub key : List ℕ
+
 abbrev pub entry_read : Entry → ℕ → RecordRead
 entry_read e used = record { refusal = numbers.done; line = 0; column = 0; used = used; number = e.number; fields = e.fields; key = e.key }
 
@@ -74,3 +85,25 @@ read_answer s (wrong place) = refused_at s place
 -- what reading answers
 unfoldable pub record_read : List ℕ → RecordRead
 record_read s = read_answer s (read_at (record_form (starts_form s)) s 0)
+
+-- what the readers answer: of the lines, and of a record
+
+abbrev pub entry_of : Record → Entry
+entry_of r = record { number = r.number; fields = r.fields; key = r.key }
+
+abbrev pub outcome_of : Result Record WrongAt → Outcome Entry
+outcome_of (Ok r) = found (entry_of r) r.used
+outcome_of (Err w) = wrong w.place
+
+abbrev pub read_of : Result Record BadText → RecordRead
+read_of (Ok r) = entry_read (entry_of r) r.used
+read_of (Err b) =
+    record {
+      refusal = numbers.record_text_bad;
+      line = b.line;
+      column = b.column;
+      used = 0;
+      number = 0;
+      fields = no_fields;
+      key = no_key;
+    }

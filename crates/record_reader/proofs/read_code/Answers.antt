@@ -2,9 +2,6 @@
 use Rattle.forms.specs.Form.{literal}
 use Rattle.record_reader.proofs.read_code.Goals as goal
 
-pub returns-then-two : goal.returns-then-two
-returns-then-two c = rw c.if-two.true c.read_line.ensures
-
-pub returns : goal.returns
+pub returns-else-two : goal.returns-else-two
 unfolding literal
-returns c = rw c.if-two.false c.read_literal.ensures
+returns-else-two c = rw c.if-two.false c.read_literal.ensures
