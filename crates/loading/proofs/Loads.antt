@@ -16,10 +16,9 @@ use Rattle.slots.specs.declared.Slot.{Slot}
 use Rattle.slot_calls.specs.Answers.{Changed}
 use Rattle.fields.specs.Fields.{asked_of}
 use Rattle.slot_calls.specs.Calls.{loaded}
-use Rattle.record_reader.specs.declared.RecordRead.{RecordRead}
 use Rattle.record_text.specs.Text.{lines_text, form_text}
 use Rattle.forms.specs.Form.{Outcome, found, wrong, read_at}
-use Rattle.record_reader.specs.Record.{Entry, record_form, starts_form, read_answer, record_read}
+use Rattle.record_reader.specs.Record.{RecordRead, Entry, record_form, starts_form, read_answer, record_read}
 use Rattle.forms.proofs.Forms.{spelt}
 use Rattle.record_reader.proofs.Records.{record-means}
 use Rattle.loading.specs.declared.Loaded.{Loaded}

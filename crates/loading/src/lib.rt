@@ -50,10 +50,10 @@ pub fn load_all(sheet: &[u8]) -> Loaded
     let mut position = 1;
     let mut at = 0;
     while at < sheet.len() {
-        let read = read_record(&sheet[at..]);
-        if read.refusal != refusals::DONE {
-            return refused(read.refusal, position, read.line, read.column);
-        }
+        let read = match read_record(&sheet[at..]) {
+            Ok(record) => record,
+            Err(bad) => return refused(refusals::RECORD_TEXT, position, bad.line, bad.column),
+        };
         let fields = read.fields;
         let key = read.key;
         let change = load(table, read.number, asked(fields), key);

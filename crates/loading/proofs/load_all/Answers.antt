@@ -1,14 +1,13 @@
 -- `loading::load_all`: what is left to load stays the same with each record. Assumes nothing.
-use mathlib.Core.Path.{◌≡◌, sym, ap, subst, ◌∙◌}
+use mathlib.Core.Path.{◌≡◌, refl, sym, ap, subst, ◌∙◌}
 use mathlib.Core.List.{List}
 use Prim.Native.Nat.{ℕ, suc, ◌+◌, ◌-◌, ◌<◌, ◌≤◌}
 use native.Mathlib.Omega.{arith}
 use lib.ListN.{length, take, drop, length-drop}
 use lib.Seq.{take_all, drop-drop}
-use Rattle.refusals.specs.Numbers.{done}
+use Rattle.refusals.specs.Numbers.{done, record_text_bad}
 use Rattle.slots.specs.declared.Slot.{Slot}
-use Rattle.record_reader.specs.declared.RecordRead.{RecordRead}
-use Rattle.record_reader.specs.Record.{record_read}
+use Rattle.record_reader.specs.Record.{RecordRead, record_read}
 use Rattle.loading.specs.Loading.{load_within, load_all}
 use Rattle.loading.proofs.Loads.{Taken, taken, load-end, text-refused, load-refused, load-next}
 use Rattle.loading.proofs.load_all.Goals as goal
@@ -45,58 +44,58 @@ onward sheet at r h e good =
     in
     (t.some, omega (arith, t.within, length-drop at sheet))
 
-pub returns-then-read-ne-DONE : goal.returns-then-read-ne-DONE
-returns-then-read-ne-DONE c =
+pub returns-in-Err : goal.returns-in-Err
+returns-in-Err c =
     let sheet = c.args.sheet.now in
     let l = c.loop-at in
-    let read = read_is sheet l.at _ c.loop-at-test.true c.read_record-read.ensures in
+    let read = read_is sheet l.at _ c.loop-at-test.true c.in-Err.ensures in
     c.refused.ensures
     ∙ sym (whole sheet l.at l.position l.table c.loop-at-test.true l.invariant.1 l.invariant.3
-    ∙ text-refused (length sheet - l.position) _ _ (drop l.at sheet) (some sheet l.at c.loop-at-test.true) read c.if-read-ne-DONE.true)
+    ∙ text-refused (length sheet - l.position) _ _ (drop l.at sheet) (some sheet l.at c.loop-at-test.true) read (λ e. let z : record_text_bad ≡ done = e in omega arith))
 
 pub returns-then-change-ne-DONE : goal.returns-then-change-ne-DONE
 returns-then-change-ne-DONE c =
     let sheet = c.args.sheet.now in
     let l = c.loop-at in
-    let read = read_is sheet l.at _ c.loop-at-test.true c.read_record-read.ensures in
+    let read = read_is sheet l.at _ c.loop-at-test.true c.in-Ok.ensures in
     c.refused-then-change-ne-DONE.ensures
     ∙ sym (whole sheet l.at l.position l.table c.loop-at-test.true l.invariant.1 l.invariant.3
-    ∙ load-refused (length sheet - l.position) l.table _ (drop l.at sheet) (some sheet l.at c.loop-at-test.true) read c.if-read-ne-DONE.false c.asked.ensures c.load-change.ensures c.if-change-ne-DONE.true)
+    ∙ load-refused (length sheet - l.position) l.table _ (drop l.at sheet) (some sheet l.at c.loop-at-test.true) read refl c.asked.ensures c.load-change.ensures c.if-change-ne-DONE.true)
 
 pub overflow_add-at : goal.overflow_add-at
 overflow_add-at c =
     let sheet = c.args.sheet.now in
-    let read = read_is sheet c.loop-at.at _ c.loop-at-test.true c.read_record-read.ensures in
-    let o = onward sheet c.loop-at.at _ c.loop-at-test.true read c.if-read-ne-DONE.false in
+    let read = read_is sheet c.loop-at.at _ c.loop-at-test.true c.in-Ok.ensures in
+    let o = onward sheet c.loop-at.at _ c.loop-at-test.true read refl in
     record { fits = omega (arith, o.1, c.well_formed.0.1) }
 
 pub overflow_add-position : goal.overflow_add-position
 overflow_add-position c =
     let sheet = c.args.sheet.now in
-    let read = read_is sheet c.loop-at.at _ c.loop-at-test.true c.read_record-read.ensures in
-    let o = onward sheet c.loop-at.at _ c.loop-at-test.true read c.if-read-ne-DONE.false in
+    let read = read_is sheet c.loop-at.at _ c.loop-at-test.true c.in-Ok.ensures in
+    let o = onward sheet c.loop-at.at _ c.loop-at-test.true read refl in
     record { fits = omega (arith, o.1, c.well_formed.0.1) }
 
 pub loop-at-smaller : goal.loop-at-smaller
 loop-at-smaller c =
     let sheet = c.args.sheet.now in
-    let read = read_is sheet c.loop-at.at _ c.loop-at-test.true c.read_record-read.ensures in
-    let o = onward sheet c.loop-at.at _ c.loop-at-test.true read c.if-read-ne-DONE.false in
+    let read = read_is sheet c.loop-at.at _ c.loop-at-test.true c.in-Ok.ensures in
+    let o = onward sheet c.loop-at.at _ c.loop-at-test.true read refl in
     omega (arith, o.0, o.1)
 
 pub loop-at-preserved : goal.loop-at-preserved
 loop-at-preserved c =
     let sheet = c.args.sheet.now in
     let l = c.loop-at in
-    let read = read_is sheet l.at _ c.loop-at-test.true c.read_record-read.ensures in
-    let o = onward sheet l.at _ c.loop-at-test.true read c.if-read-ne-DONE.false in
+    let read = read_is sheet l.at _ c.loop-at-test.true c.in-Ok.ensures in
+    let o = onward sheet l.at _ c.loop-at-test.true read refl in
     let z : length sheet - l.position ≡ length sheet + 1 - (l.position + 1) = omega arith in (
       omega arith,
       omega (arith, o.0),
       o.1,
       whole sheet l.at l.position l.table c.loop-at-test.true l.invariant.1 l.invariant.3
-          ∙ load-next (length sheet - l.position) l.table _ (drop l.at sheet) (some sheet l.at c.loop-at-test.true) read c.if-read-ne-DONE.false c.asked.ensures c.load-change.ensures c.if-change-ne-DONE.false
-          ∙ (λ i. load_within (z i) c.load-change.result.table (l.position + 1) (drop-drop c.read_record-read.result.used l.at sheet i)),
+          ∙ load-next (length sheet - l.position) l.table _ (drop l.at sheet) (some sheet l.at c.loop-at-test.true) read refl c.asked.ensures c.load-change.ensures c.if-change-ne-DONE.false
+          ∙ (λ i. load_within (z i) c.load-change.result.table (l.position + 1) (drop-drop c.in-Ok.record.used l.at sheet i)),
     )
 
 pub returns : goal.returns
