@@ -28,8 +28,10 @@ const SHEET: usize = 4277;
 fn is_record(s: &[u8]) -> bool
     ensures { result ≡ is_record s.now }
 {
-    let record = read_record(s);
-    record.refusal == refusals::DONE && record.used == s.len()
+    match read_record(s) {
+        Ok(record) => record.used == s.len(),
+        Err(_) => false,
+    }
 }
 
 // The mended sheet, at the front of the buffer, and its length. The bytes after it stay; a refused sheet leaves them all.
