@@ -14,12 +14,11 @@ use Rattle.fields.specs.Fields.{is_slot_number}
 use Rattle.slots.specs.declared.Slot.{Slot}
 use Rattle.slots.specs.Slots.{is_filled, with_slot}
 use Rattle.slot_calls.specs.Seen.{slot_as}
-use Rattle.record_reader.specs.declared.RecordRead.{RecordRead}
 use Rattle.forms.specs.Form.{Outcome, found, wrong, read_at}
-use Rattle.record_reader.specs.Record.{Entry, record_form, starts_form, read_answer, record_read}
+use Rattle.record_reader.specs.Record.{RecordRead, Entry, record_form, starts_form, read_answer, record_read}
 use Rattle.forms.proofs.Forms.{spelt}
 use Rattle.record_reader.proofs.Records.{record-means}
-use Rattle.loading.proofs.Loads.{Taken, taken}
+use Rattle.loading.proofs.Loads.{taken}
 use Rattle.gathering.specs.declared.Gathered.{Gathered}
 use Rattle.gathering.specs.Gathering.{gathered_to, not_gathered, slot_read, entered, gather_within, gather_on}
 

@@ -5,8 +5,7 @@ use Rattle.refusals.specs.Numbers.{done}
 use Rattle.slots.specs.declared.Slot.{Slot}
 use Rattle.slots.specs.Slots.{is_filled, empty_table, with_slot}
 use Rattle.slot_calls.specs.Seen.{slot_as}
-use Rattle.record_reader.specs.declared.RecordRead.{RecordRead}
-use Rattle.record_reader.specs.Record.{record_read}
+use Rattle.record_reader.specs.Record.{RecordRead, record_read}
 use Rattle.gathering.specs.declared.Gathered.{Gathered}
 
 -- each record stands in the slot of its number

@@ -1,12 +1,12 @@
 // A text of records, gathered by number and not loaded: a record of any algorithm is taken (document 02, [11]).
 #![tactic(auto)]
 
-ghost use Rattle.std.specs.Prelude.{◌≡◌, true};
+ghost use Rattle.std.specs.Prelude.{◌≡◌, true, Ok};
 ghost use Rattle.gathering.specs.Gathering.{gathered_to, not_gathered, entered, gathered};
-ghost use Rattle.refusals.specs.Numbers.{done};
 ghost use Rattle.fields.specs.Fields.{is_slot_number};
+ghost use Rattle.record_reader.specs.Record.{read_of};
 
-use record_reader::{RecordRead, read_record};
+use record_reader::{Record, read_record};
 use slots::{Slot, empty_table, is_filled, with_slot};
 use table_calls::slot_or_empty;
 
@@ -33,13 +33,10 @@ fn not_gathered() -> Gathered
 }
 
 // One record more.
-fn enter(table: [Slot; 32], read: RecordRead) -> Gathered
-    requires { read.refusal ≡ done → is_slot_number read.number ≡ true }
-    ensures { result ≡ entered table read }
+fn enter(table: [Slot; 32], read: Record) -> Gathered
+    requires { is_slot_number read.number ≡ true }
+    ensures { result ≡ entered table (read_of (Ok read)) }
 {
-    if read.refusal != refusals::DONE {
-        return not_gathered();
-    }
     let number = read.number;
     if is_filled(slot_or_empty(table, number)) {
         return not_gathered();
@@ -56,7 +53,10 @@ pub fn gather(text: &[u8]) -> Gathered
     let mut table = empty_table();
     let mut at = 0;
     while at < text.len() {
-        let read = read_record(&text[at..]);
+        let read = match read_record(&text[at..]) {
+            Ok(read) => read,
+            Err(_) => return not_gathered(),
+        };
         let used = read.used;
         let next = enter(table, read);
         if !next.good {

@@ -1,5 +1,5 @@
 -- `gathering::gather`: what is left to gather stays the same with each record. Assumes nothing.
-use mathlib.Core.Path.{◌≡◌, sym, ap, subst, ◌∙◌}
+use mathlib.Core.Path.{◌≡◌, refl, sym, ap, subst, ◌∙◌}
 use mathlib.Core.Bool.{true}
 use mathlib.Core.List.{List}
 use Prim.Native.Nat.{ℕ, ◌+◌, ◌-◌, ◌<◌, ◌≤◌}
@@ -11,8 +11,7 @@ use lib.Seq.{take_all, drop-drop}
 use Rattle.refusals.specs.Numbers.{done}
 use Rattle.slots.specs.declared.Slot.{Slot}
 use Rattle.fields.specs.Fields.{is_slot_number}
-use Rattle.record_reader.specs.declared.RecordRead.{RecordRead}
-use Rattle.record_reader.specs.Record.{record_read}
+use Rattle.record_reader.specs.Record.{RecordRead, record_read}
 use Rattle.loading.proofs.Loads.{taken}
 use Rattle.gathering.specs.declared.Gathered.{Gathered}
 use Rattle.gathering.specs.Gathering.{entered, gather_on, gathered}
@@ -44,18 +43,28 @@ onward text at r table h e good =
     let used = ap (λ (x : RecordRead). x.used) e in
     (omega (arith, used, t.some), omega (arith, used, t.within, length-drop at text))
 
+pub returns-in-Err : goal.returns-in-Err
+unfolding entered
+returns-in-Err c =
+    let text = c.args.text.now in
+    let at = c.loop-at.at in
+    let read = read_is text at _ c.loop-at-test.true c.in-Err.ensures in
+    c.not_gathered.ensures
+    ∙ sym (c.loop-at.invariant.1
+    ∙ gather-stops _ (drop at text) (some text at c.loop-at-test.true) (ap (λ (r : RecordRead). (entered c.loop-at.table r).good) (sym read)))
+
 pub enter-next-requires : goal.enter-next-requires
 enter-next-requires c =
-    let read = read_is c.args.text.now c.loop-at.at _ c.loop-at-test.true c.read_record-read.ensures in
-    subst (λ (x : RecordRead). x.refusal ≡ done → is_slot_number x.number ≡ true) (sym read) (read_number (drop c.loop-at.at c.args.text.now))
+    let read = read_is c.args.text.now c.loop-at.at _ c.loop-at-test.true c.in-Ok.ensures in
+    subst (λ (x : RecordRead). x.refusal ≡ done → is_slot_number x.number ≡ true) (sym read) (read_number (drop c.loop-at.at c.args.text.now)) refl
 
 pub returns-then-not-next : goal.returns-then-not-next
 returns-then-not-next c =
     let text = c.args.text.now in
     let at = c.loop-at.at in
-    let read = read_is text at _ c.loop-at-test.true c.read_record-read.ensures in
+    let read = read_is text at _ c.loop-at-test.true c.in-Ok.ensures in
     let enter = entered_is c.loop-at.table (drop at text) _ _ read c.enter-next.ensures in
-    c.not_gathered.ensures
+    c.not_gathered-then-not-next.ensures
     ∙ sym (c.loop-at.invariant.1
     ∙ gather-stops _ (drop at text) (some text at c.loop-at-test.true) (ap (λ (g : Gathered). g.good) (sym enter) ∙ not-true _ c.if-not-next.true))
 
@@ -63,7 +72,7 @@ pub overflow_add-at : goal.overflow_add-at
 overflow_add-at c =
     let text = c.args.text.now in
     let at = c.loop-at.at in
-    let read = read_is text at _ c.loop-at-test.true c.read_record-read.ensures in
+    let read = read_is text at _ c.loop-at-test.true c.in-Ok.ensures in
     let enter = entered_is c.loop-at.table (drop at text) _ _ read c.enter-next.ensures in
     let o = onward text at _ c.loop-at.table c.loop-at-test.true read (ap (λ (g : Gathered). g.good) (sym enter) ∙ not-false _ c.if-not-next.false) in
     record { fits = omega (arith, o.1, c.well_formed.0.1) }
@@ -72,7 +81,7 @@ pub loop-at-smaller : goal.loop-at-smaller
 loop-at-smaller c =
     let text = c.args.text.now in
     let at = c.loop-at.at in
-    let read = read_is text at _ c.loop-at-test.true c.read_record-read.ensures in
+    let read = read_is text at _ c.loop-at-test.true c.in-Ok.ensures in
     let enter = entered_is c.loop-at.table (drop at text) _ _ read c.enter-next.ensures in
     let o = onward text at _ c.loop-at.table c.loop-at-test.true read (ap (λ (g : Gathered). g.good) (sym enter) ∙ not-false _ c.if-not-next.false) in
     omega (arith, o.0, o.1)
@@ -81,7 +90,7 @@ pub loop-at-preserved : goal.loop-at-preserved
 loop-at-preserved c =
     let text = c.args.text.now in
     let at = c.loop-at.at in
-    let read = read_is text at _ c.loop-at-test.true c.read_record-read.ensures in
+    let read = read_is text at _ c.loop-at-test.true c.in-Ok.ensures in
     let enter = entered_is c.loop-at.table (drop at text) _ _ read c.enter-next.ensures in
     let good = ap (λ (g : Gathered). g.good) (sym enter) ∙ not-false _ c.if-not-next.false in
     let o = onward text at _ c.loop-at.table c.loop-at-test.true read good in (
@@ -89,7 +98,7 @@ loop-at-preserved c =
       c.loop-at.invariant.1
           ∙ gather-next _ (drop at text) (some text at c.loop-at-test.true) good
           ∙ (λ i. gather_on (sym enter i).table (drop (sym read i).used (drop at text)))
-          ∙ ap (gather_on _) (drop-drop c.read_record-read.result.used at text),
+          ∙ ap (gather_on _) (drop-drop c.in-Ok.read.used at text),
     )
 
 pub returns : goal.returns
