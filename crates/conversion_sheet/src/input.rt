@@ -1,9 +1,9 @@
 // The parts of the program's input: a text up to its first empty line, what stands behind it, and the lines of pairs.
 ghost use Rattle.std.specs.Prelude.{◌≡◌, suc, ◌≤◌, length, get_or, drop};
-ghost use Rattle.reading.specs.Reading.{wrong_at};
+ghost use Rattle.reading.specs.Reading.{reading_of};
 ghost use Rattle.conversion_sheet.specs.Input.{text_size, spaced_number, before_read, named_by, line_size, pairs_read};
 
-use reading::{Reading, good_to, may_begin, may_follow, read_line, read_literal};
+use reading::{Found, Reading, WrongAt, may_begin, may_follow, read_line, read_literal};
 
 // How many bytes stand before the first empty line.
 pub fn text_size(s: &[u8]) -> usize
@@ -43,45 +43,38 @@ fn byte_at(s: &[u8], at: usize) -> u8
     0
 }
 
-fn not_read() -> Reading
-    ensures { result ≡ wrong_at 0 }
-{
-    Reading {
-        good: false,
-        value: 0,
-        place: 0,
-    }
-}
-
 // A number of a record with a space behind it, of its first three bytes; the place is that behind it in a line.
 fn spaced_number(b: u8, c: u8, d: u8) -> Reading
-    ensures { result ≡ spaced_number b c d }
+    ensures { reading_of result ≡ spaced_number b c d }
 {
     if !may_begin(1, 32, b) {
-        return not_read();
+        return Err(WrongAt { place: 0 });
     }
-    let digit = (b - 48) as u64;
+    let digit = (b - b'0') as u64;
     if c == b' ' {
-        return good_to(digit, 9);
+        return Ok(Found {
+            value: digit,
+            place: 9,
+        });
     }
-    if !may_follow(32, digit, c) {
-        return not_read();
+    if !may_follow(32, digit, c) || d != b' ' {
+        return Err(WrongAt { place: 0 });
     }
-    if d != b' ' {
-        return not_read();
-    }
-    good_to(digit * 10 + (c - 48) as u64, 10)
+    Ok(Found {
+        value: digit * 10 + (c - b'0') as u64,
+        place: 10,
+    })
 }
 
 // `before=B` and a space, at the front of a text.
 fn read_before(s: &[u8]) -> Reading
-    ensures { result ≡ before_read s.now }
+    ensures { reading_of result ≡ before_read s.now }
 {
-    let name = read_literal(s, good_to(0, 0), b"before=");
-    if !name.good {
-        return not_read();
+    let front = Ok(Found { value: 0, place: 0 });
+    match read_literal(s, front, b"before=") {
+        Ok(_) => spaced_number(byte_at(s, 7), byte_at(s, 8), byte_at(s, 9)),
+        Err(_) => Err(WrongAt { place: 0 }),
     }
-    spaced_number(byte_at(s, 7), byte_at(s, 8), byte_at(s, 9))
 }
 
 // The numbers that a line of pairs names.
@@ -96,16 +89,15 @@ fn named_by(s: &[u8]) -> Named
     ensures { result ≡ named_by s.now }
 {
     let before = read_before(s);
-    let after = read_line(s, before, b"after=", 1, 32);
-    if !after.good {
-        return Named {
+    match (before, read_line(s, before, b"after=", 1, 32)) {
+        (Ok(before), Ok(after)) => Named {
+            before: before.value,
+            after: after.value,
+        },
+        _ => Named {
             before: 0,
             after: 0,
-        };
-    }
-    Named {
-        before: before.value,
-        after: after.value,
+        },
     }
 }
 

@@ -1,68 +1,52 @@
 -- `input::spaced_number`: each answer by the tests that led to it. Assumes nothing.
-use mathlib.Core.Bool.{true}
-use mathlib.Core.Path.{◌≡◌, sym, ◌∙◌}
-use Prim.Native.Nat.{◌-◌}
+use Rattle.std.proofs.Common.{◌∙◌, sym}
 use borrow.Author.Tests.{eq-eqb, ne_eqb}
-use Rattle.forms.specs.Decimals.{may_begin, may_follow}
 use Rattle.forms.proofs.Decimals.{begin-is, follow-is}
 use Rattle.conversion_sheet.specs.Input.{spaced_number}
 use Rattle.conversion_sheet.proofs.input.spaced_number.Goals as goal
+use Rattle.conversion_sheet.proofs.input.spaced_number.Goals.{then-not-may_follow-via-then-not-may_follow, then-not-may_follow-via-else-not-may_follow+then-d-ne32}
 
 -- a digit begins, and another follows
 
 pub returns-then-not-may_begin : goal.returns-then-not-may_begin
 unfolding spaced_number
-returns-then-not-may_begin c = rw (sym c.may_begin.ensures ∙ c.if-not-may_begin.true) c.not_read.ensures
+returns-then-not-may_begin c = rw (sym c.may_begin.ensures ∙ c.if-not-may_begin.true)
 
 pub overflow_sub-digit : goal.overflow_sub-digit
-overflow_sub-digit c =
-    let begins : may_begin 1 32 c.args.b ≡ true =
-    sym c.may_begin.ensures ∙ c.if-not-may_begin.false
-    in
-    (begin-is 1 32 _ begins).0
+overflow_sub-digit c = (begin-is 1 32 _ (sym c.may_begin.ensures ∙ c.if-not-may_begin.false)).0
 
 pub returns-then-c-eq32 : goal.returns-then-c-eq32
 unfolding spaced_number
-returns-then-c-eq32 c =
-    let begins : may_begin 1 32 c.args.b ≡ true =
-    sym c.may_begin.ensures ∙ c.if-not-may_begin.false
-    in
-    rw (begins, eq-eqb _ _ c.if-c-eq32.true) c.good_to.ensures
+returns-then-c-eq32 c = rw (sym c.may_begin.ensures ∙ c.if-not-may_begin.false, eq-eqb _ _ c.if-c-eq32.true)
 
 pub returns-then-not-may_follow : goal.returns-then-not-may_follow
 unfolding spaced_number
 returns-then-not-may_follow c =
-    let begins : may_begin 1 32 c.args.b ≡ true =
-    sym c.may_begin.ensures ∙ c.if-not-may_begin.false
-    in
-    rw (begins, ne_eqb _ _ c.if-c-eq32.false, sym c.may_follow.ensures ∙ c.if-not-may_follow.true)
-    c.not_read-then-not-may_follow.ensures
+    elim c.then-not-may_follow.branch [
+      | then-not-may_follow-via-then-not-may_follow w ↦
+          rw (
+            sym c.may_begin.ensures ∙ c.if-not-may_begin.false,
+            ne_eqb _ _ c.if-c-eq32.false,
+            sym c.may_follow.ensures ∙ w.if-not-may_follow.true,
+          )
+      | then-not-may_follow-via-else-not-may_follow+then-d-ne32 w ↦
+          rw (
+            sym c.may_begin.ensures ∙ c.if-not-may_begin.false,
+            ne_eqb _ _ c.if-c-eq32.false,
+            sym c.may_follow.ensures ∙ w.if-not-may_follow.false,
+            ne_eqb _ _ w.if-d-ne32.true,
+          )
+    ]
 
-pub returns-then-d-ne32 : goal.returns-then-d-ne32
-unfolding spaced_number
-returns-then-d-ne32 c =
-    let begins : may_begin 1 32 c.args.b ≡ true =
-    sym c.may_begin.ensures ∙ c.if-not-may_begin.false
-    in
-    let follows : let args = c.args in may_follow 32 (args.b - 48) args.c ≡ true =
-    sym c.may_follow.ensures ∙ c.if-not-may_follow.false
-    in
-    rw (begins, ne_eqb _ _ c.if-c-eq32.false, follows, ne_eqb _ _ c.if-d-ne32.true) c.not_read-then-d-ne32.ensures
-
-pub overflow_sub-c : goal.overflow_sub-c
-overflow_sub-c c =
-    let follows : let args = c.args in may_follow 32 (args.b - 48) args.c ≡ true =
-    sym c.may_follow.ensures ∙ c.if-not-may_follow.false
-    in
-    (follow-is 32 _ _ follows).0
+pub overflow_sub-result : goal.overflow_sub-result
+overflow_sub-result c = (follow-is 32 _ _ (sym c.may_follow.ensures ∙ c.if-not-may_follow.false)).0
 
 pub returns : goal.returns
 unfolding spaced_number
 returns c =
-    let begins : may_begin 1 32 c.args.b ≡ true =
-    sym c.may_begin.ensures ∙ c.if-not-may_begin.false
-    in
-    let follows : let args = c.args in may_follow 32 (args.b - 48) args.c ≡ true =
-    sym c.may_follow.ensures ∙ c.if-not-may_follow.false
-    in
-    rw (begins, ne_eqb _ _ c.if-c-eq32.false, follows, eq-eqb _ _ c.if-d-ne32.false) c.good_to-2.ensures
+    rw (
+      sym c.may_begin.ensures ∙ c.if-not-may_begin.false,
+      ne_eqb _ _ c.if-c-eq32.false,
+      sym c.may_follow.ensures ∙ c.if-not-may_follow.false,
+      eq-eqb _ _ c.if-d-ne32.false,
+    )
