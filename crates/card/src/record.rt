@@ -4,6 +4,7 @@ ghost use Rattle.record_reader.specs.Record.{record_read};
 ghost use Rattle.faces.specs.Faces.{asking, read_as, read_out, written_as, written_out};
 
 use faces::{asked_for, shown_numbers};
+use record_reader::read_record;
 
 // Reads one record from the front of a text: leaves its number and fields in `shown`, its key in `key`, and how many bytes it took in
 // `used`. On refusal 15 `line` and `column` say where the first byte stands at which no good record goes on, and zeros are left elsewhere.
@@ -19,14 +20,25 @@ pub extern "C" fn card_record_read(
     ensures { read_as result shown.new key.new used.new line.new column.new
         ≡ read_out (record_read text.now) }
 {
-    let r = record_reader::read_record(text);
-    let k = r.key;
-    *shown = shown_numbers(r.number, r.fields);
-    *key = k;
-    *used = r.used;
-    *line = r.line;
-    *column = r.column;
-    r.refusal
+    match read_record(text) {
+        Ok(record) => {
+            let bytes = record.key;
+            *shown = shown_numbers(record.number, record.fields);
+            *key = bytes;
+            *used = record.used;
+            *line = 0;
+            *column = 0;
+            refusals::DONE
+        }
+        Err(bad) => {
+            *shown = [0u64; 8];
+            *key = [0u8; 24];
+            *used = 0;
+            *line = bad.line;
+            *column = bad.column;
+            refusals::RECORD_TEXT
+        }
+    }
 }
 
 // Writes a record to the front of a buffer, keeps the bytes after it, and leaves the text's length in `length`.

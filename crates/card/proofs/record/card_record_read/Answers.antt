@@ -1,10 +1,12 @@
--- `card::record::card_record_read`: the record's numbers. Assumes nothing.
-use mathlib.Core.Path.{ap, ◌∙◌}
+-- `card::record::card_record_read`: the record's numbers, or the place of the byte that is wrong. Assumes nothing.
+use Rattle.std.proofs.Common.{ap, ◌∙◌}
 use Rattle.faces.specs.Faces.{read_as, read_out}
 use Rattle.card.proofs.record.card_record_read.Goals as goal
 
-pub returns : goal.returns
-returns c =
-    let read = c.read_record-r in
-    let r = read.result in
-    (λ i. read_as r.refusal (c.shown_numbers.ensures i) r.key r.used r.line r.column) ∙ ap read_out read.ensures
+pub returns-in-Ok : goal.returns-in-Ok
+returns-in-Ok c =
+    let r = c.in-Ok.record in
+    (λ i. read_as 0 (c.shown_numbers.ensures i) r.key r.used 0 0) ∙ ap read_out c.in-Ok.ensures
+
+pub returns-in-Err : goal.returns-in-Err
+returns-in-Err c = ap read_out c.in-Err.ensures
