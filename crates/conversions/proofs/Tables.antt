@@ -18,8 +18,7 @@ use Rattle.slots.specs.Slots.{is_filled, empty, empty_table, nil, slot_at, with_
 use Rattle.slot_calls.specs.Seen.{slot_as}
 use Rattle.slot_calls.proofs.Left.{slot-stored, slot-other}
 use Rattle.record_text.specs.Text.{form_text, InCode, Good}
-use Rattle.record_reader.specs.declared.RecordRead.{RecordRead}
-use Rattle.record_reader.specs.Record.{Entry, starts_form, entry_read, record_read}
+use Rattle.record_reader.specs.Record.{RecordRead, Entry, starts_form, entry_read, record_read}
 use Rattle.records.proofs.Promises.{good-is-read, read-is-good}
 use Rattle.loading.proofs.Loads.{taken}
 use Rattle.gathering.specs.declared.Gathered.{Gathered}

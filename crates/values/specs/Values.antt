@@ -8,9 +8,8 @@ use Rattle.fields.specs.Fields.{asked_of}
 use Rattle.slots.specs.declared.Slot.{Slot}
 use Rattle.slots.specs.Slots.{empty}
 use Rattle.slot_calls.specs.Calls.{move_refusal}
-use Rattle.record_reader.specs.declared.RecordRead.{RecordRead}
 use Rattle.writing.specs.Text.{ascii}
-use Rattle.record_reader.specs.Record.{record_read}
+use Rattle.record_reader.specs.Record.{RecordRead, record_read}
 use Rattle.record_writer.specs.Written.{record_written, buffer_written}
 use Rattle.plan.specs.declared.Plan.{Plan}
 use Rattle.plan.specs.Plan.{plan_of}
