@@ -1,50 +1,29 @@
--- One pair more, one number more. Assumes nothing.
-use mathlib.Core.Bool.{Bool, true, false, ◌||◌, or-true, or-false}
-use mathlib.Core.List.{List}
-use mathlib.Core.Path.{◌≡◌, refl, sym, ap, ◌∙◌}
-use Prim.Native.Nat.{ℕ, zero, suc, ◌+◌, ◌-◌, ◌<◌, ◌≤◌}
-use native.Mathlib.Numerals.{add-one}
-use native.Mathlib.Omega.{arith}
-use lib.Dec.{eqb}
-use borrow.Author.Tests.{eq-eqb, ne_eqb}
+-- One pair more, one number more, and the first pair. Assumes nothing.
+use Rattle.std.proofs.Common.{◌≡◌, ℕ, zero, suc, ◌+◌, Bool, ◌||◌, cond, nat_eq, nat_lt, List, refl, arith}
+use Rattle.std.specs.List.{list_any, position, position_or_len, range_with_len}
+use Rattle.std.proofs.lemmas.List.FromFn.{length-range_with_len}
 use Rattle.slots.specs.declared.Slot.{Slot}
+use Rattle.conversion_pairs.specs.Answers.{pair_at}
 use Rattle.conversion_pairs.specs.Pairs.{number_on, named_on, first_from, left_out, leaves_out}
 
-module _ (side : ℕ) (pairs : List ℕ) (n i : ℕ) where
-  named_more : named_on side pairs n (i + 1) ≡ named_on side pairs n i || eqb (number_on side pairs i) n
-  unfolding named_on
-  named_more = rw add-one
+any_more : (p : ℕ → Bool) (a n : ℕ) → list_any p (range_with_len a (suc n)) ≡ list_any p (range_with_len a n) || p (a + n)
+any_more p a zero = grind arith
+any_more p a (suc n) = grind (arith, any_more p (a + 1) n)
 
-  pub named_here : number_on side pairs i ≡ n → named_on side pairs n (i + 1) ≡ true
-  named_here e = named_more ∙ rw (eq-eqb (number_on side pairs i) n e) (or-true (named_on side pairs n i))
+pub any_named : (side : ℕ) (pairs : List ℕ) (n count : ℕ) → list_any (λ i. nat_eq (number_on side pairs i) n) (range_with_len 0 count) ≡ named_on side pairs n count
+unfolding named_on
+any_named side pairs n zero = refl
+any_named side pairs n (suc i) = grind (arith, any_more (λ i. nat_eq (number_on side pairs i) n) 0 i, any_named side pairs n i)
 
-  pub named-not : (number_on side pairs i ≡ n → ⊥) → named_on side pairs n (i + 1) ≡ named_on side pairs n i
-  named-not e = named_more ∙ rw (ne_eqb (number_on side pairs i) n e) (or-false (named_on side pairs n i))
+pub any_left_out : (after : List Slot) (pairs : List ℕ) (n : ℕ) → list_any (left_out after pairs) (range_with_len 1 n) ≡ leaves_out after pairs n
+unfolding leaves_out
+any_left_out after pairs zero = refl
+any_left_out after pairs (suc n) = grind (arith, any_more (left_out after pairs) 1 n, any_left_out after pairs n)
 
-module _ (after : List Slot) (pairs : List ℕ) (i : ℕ) where
-  out-more : leaves_out after pairs (i + 1) ≡ leaves_out after pairs i || left_out after pairs (i + 1)
-  unfolding leaves_out
-  out-more = ap (leaves_out after pairs) (add-one i)
+first_place : (test : ℕ → Bool) (i n : ℕ) → first_from test i n ≡ cond (nat_lt (position_or_len test (range_with_len i n)) n) (suc (i + position_or_len test (range_with_len i n))) 0
+unfolding first_from
+first_place test i zero = refl
+first_place test i (suc n) = grind (arith, first_place test (i + 1) n)
 
-  pub out-here : left_out after pairs (i + 1) ≡ true → leaves_out after pairs (i + 1) ≡ true
-  out-here e = out-more ∙ rw e (or-true (leaves_out after pairs i))
-
-  pub out-not : left_out after pairs (i + 1) ≡ false → leaves_out after pairs (i + 1) ≡ leaves_out after pairs i
-  out-not e = out-more ∙ rw e (or-false (leaves_out after pairs i))
-
--- the first place, from pair i of so many on
-module _ (test : ℕ → Bool) (i count : ℕ) where
-  first_more : i < count → first_from test i (count - i) ≡ first_from test i (suc (count - (i + 1)))
-  first_more h = let z : count - i ≡ suc (count - (i + 1)) = omega arith in ap (first_from test i) z
-
-  pub first-here : i < count → test i ≡ true → first_from test i (count - i) ≡ i + 1
-  unfolding first_from
-  first-here h e = first_more h ∙ rw e
-
-  pub first_next : i < count → test i ≡ false → first_from test i (count - i) ≡ first_from test (i + 1) (count - (i + 1))
-  unfolding first_from
-  first_next h e = first_more h ∙ rw e
-
-  pub first-end : count ≤ i → first_from test i (count - i) ≡ 0
-  unfolding first_from
-  first-end h = let z : count - i ≡ 0 = omega arith in ap (first_from test i) z
+pub first_placed : (test : ℕ → Bool) (n : ℕ) → position test (range_with_len 0 n) ≡ pair_at (first_from test 0 n)
+first_placed test n = grind (arith, first_place test 0 n, length-range_with_len)

@@ -1,28 +1,17 @@
--- `pairs::is_named`: the pairs passed name the number or do not. Assumes nothing.
-use mathlib.Core.Path.{◌≡◌, refl, sym, ap, ◌∙◌}
-use Prim.Native.Nat.{◌-◌}
-use native.Mathlib.Omega.{arith}
-use borrow.Author.Rules.{rules}
-use Rattle.conversion_pairs.specs.Pairs.{named_on}
-use Rattle.conversion_pairs.proofs.Steps.{named_here, named-not}
+-- `conversion_pairs::is_named`: one of the first pairs names the number. Assumes nothing.
+use Rattle.std.proofs.Common.{rules, tests, arith, nat_eq, ◌∙◌, refl}
+use Rattle.std.proofs.lemmas.Iterator.{YieldsList-from_range}
+use Rattle.std.proofs.lemmas.Iterator.Search.{any_from_yields_List}
+use Rattle.conversion_pairs.specs.Answers.{side_of}
+use Rattle.conversion_pairs.specs.Pairs.{number_on}
+use Rattle.conversion_pairs.proofs.Steps.{any_named}
 use Rattle.conversion_pairs.proofs.is_named.Goals as goal
-use Rattle.conversion_pairs.proofs.is_named.Goals.{then-number_on-n, else-number_on-n}
-
-pub loop-i-init : goal.loop-i-init
-unfolding named_on
-loop-i-init c = (search rules, refl)
-
-pub loop-i-preserved : goal.loop-i-preserved
-loop-i-preserved c =
-    let loop = c.loop-i in
-    let args = c.args in
-    elim c.if-number_on-n.branch [
-      | then-number_on-n w ↦ (search rules, w.named-is ∙ sym (named_here args.side args.pairs.now args.n loop.i (sym c.number_on.ensures ∙ w.if-number_on-n.true)))
-      | else-number_on-n w ↦ (search rules, w.named-is ∙ (loop.invariant.1 ∙ sym (named-not args.side args.pairs.now args.n loop.i (λ e. w.if-number_on-n.false (c.number_on.ensures ∙ e)))))
-    ]
 
 pub returns : goal.returns
 returns c =
     let args = c.args in
-    let z : c.loop-i.i ≡ args.count = omega arith in
-    c.loop-i.invariant.1 ∙ ap (named_on args.side args.pairs.now args.n) z
+    any_from_yields_List (λ i. nat_eq (number_on (side_of args.side) args.pairs.now i) args.n) _ _ _
+    c.any.ensures.ran
+    (YieldsList-from_range 0 args.count args.count refl (omega arith))
+    (λ x b q k. search (rules, tests))
+    ∙ any_named _ _ _ _
