@@ -11,16 +11,7 @@ use writing::{put_item, put_line};
 fn count_filled(table: [Slot; 32]) -> u64
     ensures { result ≡ filled_count table }
 {
-    let mut count: u64 = 0;
-    let mut i: usize = 0;
-    while i < 32 {
-        let slot = table[i];
-        if is_filled(slot) {
-            count += 1;
-        }
-        i += 1;
-    }
-    count
+    table.iter().filter(|slot| is_filled(**slot)).count() as u64
 }
 
 fn put_table(buffer: &mut [u8], table: [Slot; 32]) -> usize

@@ -13,6 +13,7 @@ use Rattle.fields.specs.declared.Fields.{Fields}
 use Rattle.fields.proofs.Ranges.{side-high, place-high, mcc-high, mnc-high}
 use Rattle.slots.specs.declared.Slot.{Slot}
 use Rattle.slots.specs.Slots.{nil, is_filled}
+use Rattle.writing.specs.Writing.{Room}
 use Rattle.writing.specs.Text.{digits, line_text, item}
 use Rattle.record_text.specs.Text.{use_word}
 use Rattle.writing.proofs.Digits.{length-one, digits-fit, item-length, line-length}
@@ -48,6 +49,10 @@ line-short number f n v r =
       digits-fit 3 f.mcc (omega (arith, mcc-high (asked_of f) r)),
       digits-fit 4 f.mnc (omega (arith, mnc-high (asked_of f) r)),
     )
+
+-- what a buffer with room for the longest line has room for
+pub line-room : (b : List ℕ) (at number : ℕ) (f : Fields) → (at + longest_line ≤ length b) × (number ≤ 32) × (all_in_range (asked_of f) ≡ true) → f.version ≤ 65535 → Room b at (slot_line number f)
+line-room b at number f pre v = record { fits = omega (arith, pre.0, line-short number f pre.1 v pre.2) }
 
 -- the text of a slot that is filled, and of one that is not
 

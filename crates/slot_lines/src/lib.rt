@@ -40,15 +40,16 @@ fn put_slot_line(buffer: &mut [u8], at: usize, number: u64, f: Fields) -> usize
     put_codes(buffer, side, f)
 }
 
+// The line of a slot that is filled, and nothing of another.
 fn put_slot(buffer: &mut [u8], at: usize, number: u64, slot: Slot) -> usize
     requires { (at + longest_line ≤ length buffer.old) × (number ≤ 32) }
     ensures { (result ≤ at + longest_line) × Put buffer.old at (slot_text number slot) buffer.new result }
 {
     if is_filled(slot) {
-        let fields = slot.fields;
-        return put_slot_line(buffer, at, number, fields);
+        put_slot_line(buffer, at, number, slot.fields)
+    } else {
+        at
     }
-    at
 }
 
 // The lines of the filled slots, in number order.
@@ -57,12 +58,8 @@ pub fn put_slots(buffer: &mut [u8], at: usize, table: [Slot; 32]) -> usize
     ensures { (result ≤ at + 32 * longest_line) × Put buffer.old at (slot_lines 1 table) buffer.new result }
 {
     let mut end = at;
-    let mut i: usize = 0;
-    while i < 32 {
-        let slot = table[i];
-        let next = put_slot(buffer, end, i as u64 + 1, slot);
-        end = next;
-        i += 1;
+    for (i, slot) in table.iter().enumerate() {
+        end = put_slot(buffer, end, i as u64 + 1, *slot);
     }
     end
 }
