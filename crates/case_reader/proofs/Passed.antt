@@ -38,13 +38,20 @@ module _ {line : List ℕ} (a : Accepted line) where
   pub passed : KeyedPassed (length case.key) (length case.iv) (length case.buffer) case.start case.bits case.skip
   passed = keyed-passed _ _ _ _ _ _ _ a.passed
 
-  pub key-size : 24 ≡ length (part 1 line) / 2
+  key-size : 24 ≡ length (part 1 line) / 2
   unfolding case_of
   key-size = sym passed.key-24 ∙ length-bytes (part 1 line)
 
-  pub iv-size : 10 ≡ length (part 2 line) / 2
+  iv-size : 10 ≡ length (part 2 line) / 2
   unfolding case_of
   iv-size = sym passed.iv-10 ∙ length-bytes (part 2 line)
+
+  -- each part has as many bytes as its array takes
+  pub key_bytes : (are_bytes (part 1 line) ≡ true) × (24 ≡ length (part 1 line) / 2)
+  key_bytes = (key-readable line a.readable, key-size)
+
+  pub iv_bytes : (are_bytes (part 2 line) ≡ true) × (10 ≡ length (part 2 line) / 2)
+  iv_bytes = (iv-readable line a.readable, iv-size)
 
   pub buffer-small : length (last_part line) / 2 ≤ longest_buffer
   unfolding case_of

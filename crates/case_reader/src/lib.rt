@@ -1,9 +1,9 @@
 // A case by its line: algorithm, key, initial value, start, length, skip and buffer.
 #![tactic(auto)]
 
-ghost use Rattle.std.specs.Prelude.{◌&&◌, ◌≡◌, ◌/◌, length};
+ghost use Rattle.std.specs.Prelude.{true, ◌≡◌, ◌/◌, length};
 ghost use Rattle.lines.specs.Line.{part};
-ghost use Rattle.line_values.specs.Parts.{number_of, are_bytes};
+ghost use Rattle.line_values.specs.Parts.{number_of, are_bytes, bytes_of};
 ghost use Rattle.case_reader.specs.Case.{is_number, last_part, numbers_readable, bytes_readable, is_readable, case_of, refusal_of, Accepted};
 
 use bench::keyed_refusal;
@@ -28,37 +28,21 @@ pub fn value(line: &[u8], k: usize) -> u64
 fn size(line: &[u8], k: usize) -> usize
     ensures { result ≡ length (part k line.now) / 2 }
 {
-    let bytes = part(line, k);
-    bytes.len() / 2
+    part(line, k).len() / 2
 }
 
 // How many bytes the buffer has.
 pub fn buffer_size(line: &[u8]) -> usize
     ensures { result ≡ length (last_part line.now) / 2 }
 {
-    let bytes = after_spaces(line, 6);
-    bytes.len() / 2
+    after_spaces(line, 6).len() / 2
 }
 
-fn both(a: bool, b: bool) -> bool
-    ensures { result ≡ a && b }
-{
-    if a {
-        return b;
-    }
-    false
-}
-
+#[tactic(auto, unfolding(crate::specs::Case::numbers_readable))]
 fn numbers_readable(line: &[u8]) -> bool
     ensures { result ≡ numbers_readable line.now }
 {
-    both(
-        is_number(line, 0),
-        both(
-            is_number(line, 3),
-            both(is_number(line, 4), is_number(line, 5)),
-        ),
-    )
+    is_number(line, 0) && is_number(line, 3) && is_number(line, 4) && is_number(line, 5)
 }
 
 fn is_bytes(line: &[u8], k: usize) -> bool
@@ -70,17 +54,15 @@ fn is_bytes(line: &[u8], k: usize) -> bool
 fn bytes_readable(line: &[u8]) -> bool
     ensures { result ≡ bytes_readable line.now }
 {
-    both(
-        is_bytes(line, 1),
-        both(is_bytes(line, 2), are_bytes(after_spaces(line, 6))),
-    )
+    is_bytes(line, 1) && is_bytes(line, 2) && are_bytes(after_spaces(line, 6))
 }
 
 // Has the line the form of a case?
+#[tactic(auto, unfolding(crate::specs::Case::is_readable))]
 pub fn is_readable(line: &[u8]) -> bool
     ensures { result ≡ is_readable line.now }
 {
-    both(numbers_readable(line), bytes_readable(line))
+    numbers_readable(line) && bytes_readable(line)
 }
 
 pub fn case_refusal(line: &[u8]) -> u8
@@ -97,20 +79,28 @@ pub fn case_refusal(line: &[u8]) -> u8
     )
 }
 
+// The N bytes of a part.
+fn bytes_of<const N: usize>(line: &[u8], k: usize) -> [u8; N]
+    requires { (are_bytes (part k line.now) ≡ true) × (N ≡ length (part k line.now) / 2) }
+    ensures { result ≡ bytes_of (part k line.now) }
+{
+    let mut bytes = [0; N];
+    read_bytes(part(line, k), &mut bytes);
+    bytes
+}
+
+#[tactic(auto, unfolding(crate::specs::Case::case_of))]
 pub fn key_of(line: &[u8]) -> [u8; 24]
     requires { Accepted line.now }
     ensures { result ≡ (case_of line.now).key }
 {
-    let mut key = [0u8; 24];
-    read_bytes(part(line, 1), &mut key);
-    key
+    bytes_of(line, 1)
 }
 
+#[tactic(auto, unfolding(crate::specs::Case::case_of))]
 pub fn iv_of(line: &[u8]) -> [u8; 10]
     requires { Accepted line.now }
     ensures { result ≡ (case_of line.now).iv }
 {
-    let mut iv = [0u8; 10];
-    read_bytes(part(line, 2), &mut iv);
-    iv
+    bytes_of(line, 2)
 }
