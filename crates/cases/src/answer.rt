@@ -29,11 +29,9 @@ fn put_mode(out: &mut [u8], at: usize, algorithm: u64, ck: [u8; 24], iv: [u8; 10
 {
     let mixed = mixed_value(iv);
     let mode = mode_of(algorithm, ck, iv);
-    let key = mode.key;
-    let value = mode.value;
     let key_at = put_value(out, at, mixed);
-    let value_at = put_value(out, key_at, key);
-    put_value(out, value_at, value)
+    let value_at = put_value(out, key_at, mode.key);
+    put_value(out, value_at, mode.value)
 }
 
 // The buffer of a case, ciphered.

@@ -1,34 +1,24 @@
 -- `answer::put_ciphered`: the bytes and LF. Assumes nothing.
-use mathlib.Core.List.{List, [], ◌∷◌, ◌++◌}
-use mathlib.Core.Path.{◌≡◌, sym, ap}
-use Prim.Native.Nat.{ℕ}
-use Rattle.writing.specs.Text.{lf, hex_text}
+use mathlib.Core.Path.{sym}
 use Rattle.writing.proofs.Puts.{put_then, put-length, put_as, room-first, room-then, room_as}
-use Rattle.case_reader.specs.Case.{case_of}
-use Rattle.cases.specs.Answer.{buffer_text}
+use Rattle.cases.proofs.Texts.{ciphered-text}
 use Rattle.cases.proofs.answer.put_ciphered.Goals as goal
 
 -- the buffer is the ciphered one
 
 pub put_hex-end-requires : goal.put_hex-end-requires
 put_hex-end-requires c =
-    let made : buffer_text (case_of c.args.line.now) ≡ hex_text c.cipher.new.buf ++ (lf ∷ []) =
-    ap (λ (l : List ℕ). hex_text l ++ (lf ∷ [])) (sym c.cipher.ensures)
-    in
+    let made = ciphered-text c.args.line.now c.cipher.ensures in
     room-first _ (room_as made c.requires.2)
 
 pub put_bytes-requires : goal.put_bytes-requires
 put_bytes-requires c =
-    let made : buffer_text (case_of c.args.line.now) ≡ hex_text c.cipher.new.buf ++ (lf ∷ []) =
-    ap (λ (l : List ℕ). hex_text l ++ (lf ∷ [])) (sym c.cipher.ensures)
-    in
+    let made = ciphered-text c.args.line.now c.cipher.ensures in
     room-then c.put_hex-end.ensures (room_as made c.requires.2)
 
 pub returns : goal.returns
 returns c =
-    let made : buffer_text (case_of c.args.line.now) ≡ hex_text c.cipher.new.buf ++ (lf ∷ []) =
-    ap (λ (l : List ℕ). hex_text l ++ (lf ∷ [])) (sym c.cipher.ensures)
-    in
+    let made = ciphered-text c.args.line.now c.cipher.ensures in
     put_as (sym made) (put_then c.put_hex-end.ensures c.put_bytes.ensures)
 
 pub shape_of-out : goal.shape_of-out
