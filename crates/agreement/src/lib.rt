@@ -8,17 +8,15 @@ use fields::Fields;
 use rights::lies_within;
 use slots::Slot;
 
-// Version, algorithm, side, place and network: every field but the use.
+// Every field but the use.
 #[tactic(auto, unfolding(crate::specs::Agreement::same_fields))]
 fn same_fields(f: Fields, g: Fields) -> bool
     ensures { result ≡ same_fields f g }
 {
-    f.version == g.version
-        && f.algorithm == g.algorithm
-        && f.side == g.side
-        && f.place == g.place
-        && f.mcc == g.mcc
-        && f.mnc == g.mnc
+    Fields {
+        usage: g.usage,
+        ..f
+    } == g
 }
 
 // Each byte is compared, whatever the bytes before it are.
