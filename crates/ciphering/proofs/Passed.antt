@@ -6,6 +6,8 @@ use native.Mathlib.Omega.{arith}
 use borrow.Author.Tests.{eqb-false, ltb-false}
 use lib.Dec.{eqb, ltb, lit<}
 use Rattle.laws.proofs.Cases.{neither, unpicked}
+use Rattle.refusals.proofs.Judged.{number-above_0}
+use Rattle.block_counts.proofs.Blocks.{used_pos}
 use Rattle.span.specs.Span.{longest_buffer, longest_stream}
 use Rattle.ciphering.specs.Span.{span_refusal}
 
@@ -27,3 +29,6 @@ span-passed size start n skip e =
       streamed = ltb-false longest_stream (skip + n) (neither (eqb n 0) (ltb longest_stream (skip + n)) four.0).1;
       inside = ltb-false (8 * size) (start + n) six.0;
     }
+
+-- what the work of an accepted call is shown by
+pub ruleset work_steps = (span-passed, number-above_0, used_pos)

@@ -1,3 +1,4 @@
 pub mod Passed
 pub mod Laws
 pub mod SeenTraffic
+pub mod Past

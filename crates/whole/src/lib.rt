@@ -2,20 +2,22 @@
 #![tactic(auto)]
 
 ghost use Rattle.std.specs.Prelude.{◌≡◌, length, not};
+ghost use Rattle.refusals.specs.Refused.{number_of};
 ghost use Rattle.slots.specs.Slots.{keyless};
 ghost use Rattle.slot_calls.specs.Seen.{key_slot};
+ghost use Rattle.plan.specs.Plan.{with_pieces, plan_as};
 ghost use Rattle.whole.specs.Whole.{flag_of, room_refusal, open_refusal_of, whole_plan, has_no_piece, judged_plan};
 
 use fields::Fields;
-use plan::Plan;
-use refusals::refuse;
+use plan::Pieces;
+use refusals::Refusal;
 use traffic::{bit_at, use_refusal};
 
 // Kind 2, whose PDUs have a fragmentation flag.
 const SYNC_ON_SCH_H: u64 = 2;
 
 // What a plan is made of, but for the flag: that stands in the PDU. Length, address and sdu are bits.
-#[derive(Clone, Copy)]
+#[derive(Clone, Copy, Debug, PartialEq, Eq)]
 pub struct Pdu {
     pub kind: u64,
     pub state: u64,
@@ -25,39 +27,35 @@ pub struct Pdu {
 }
 
 // The fragmentation flag of a PDU: its bit 12, counted from 1, if it is of kind 2 and has one.
+#[tactic(auto, unfolding(crate::specs::Whole::flag_of))]
 fn flag_of(pdu: Pdu, buf: &[u8]) -> u64
     ensures { result ≡ flag_of pdu buf.now }
 {
-    if pdu.kind != SYNC_ON_SCH_H {
-        return 0;
+    if pdu.kind == SYNC_ON_SCH_H && pdu.length >= 12 {
+        bit_at(buf, 11) as u64
+    } else {
+        0
     }
-    if pdu.length < 12 {
-        return 0;
-    }
-    bit_at(buf, 11) as u64
 }
 
-fn plan_of(pdu: Pdu, buf: &[u8]) -> Plan
-    ensures { result ≡ whole_plan buf.now pdu }
+fn plan_of(pdu: Pdu, buf: &[u8]) -> Result<Pieces, Refusal>
+    ensures { plan_as result ≡ whole_plan buf.now pdu }
 {
     let flag = flag_of(pdu, buf);
     plan::plan_pdu(pdu.kind, pdu.state, flag, pdu.length, pdu.address, pdu.sdu)
 }
 
 // Refusals 5, 6.
-fn room_refusal(size: usize, length: usize) -> u8
-    ensures { result ≡ room_refusal size length }
+#[tactic(auto, unfolding(crate::specs::Whole::room_refusal))]
+fn room_refusal(size: usize, length: usize) -> Result<(), Refusal>
+    ensures { number_of result ≡ room_refusal size length }
 {
-    if span::LONGEST_BUFFER < size {
-        return refusals::BUFFER;
-    }
-    if 8 * size < length {
-        return refusals::SPAN;
-    }
-    refusals::DONE
+    Refusal::BufferLarge.when(span::LONGEST_BUFFER < size)?;
+    Refusal::SpanOutside.when(8 * size < length)
 }
 
 // Refusals 16, 10, 7, 8, 12, 21, 3, 13, 5, 6, in this order.
+#[tactic(auto, using(refusals::proofs::Judged::judged_steps), unfolding(crate::specs::Whole::open_refusal_of))]
 fn open_refusal(
     bad: bool,
     f: Fields,
@@ -66,19 +64,15 @@ fn open_refusal(
     iv: &[u8],
     size: usize,
     length: usize,
-) -> u8
-    ensures { result ≡ open_refusal_of bad (keyless f) direction number iv.now size length }
+) -> Result<(), Refusal>
+    ensures { number_of result ≡ open_refusal_of bad (keyless f) direction number iv.now size length }
 {
-    let use_refusal = use_refusal(bad, f, direction, number, iv);
-    refuse(
-        use_refusal != refusals::DONE,
-        use_refusal,
-        room_refusal(size, length),
-    )
+    use_refusal(bad, f, direction, number, iv)?;
+    room_refusal(size, length)
 }
 
-// The plan of a call, by what its slot shows: no key is read to judge a call. Refusals 16, 10, 7, 8, 12, 21, 3, 13, 5, 6, 18, 19, in this order; a call that is
-// refused has no piece.
+// The plan of a call, by what its slot shows: no key is read to judge a call. Refusals 16, 10, 7, 8, 12, 21, 3, 13, 5, 6, 18, 19, in this order.
+#[tactic(auto, using(refusals::proofs::Judged::judged_steps), unfolding(crate::specs::Whole::judged_plan))]
 pub fn judged_plan(
     bad: bool,
     f: Fields,
@@ -87,31 +81,25 @@ pub fn judged_plan(
     iv: &[u8],
     buf: &[u8],
     pdu: Pdu,
-) -> Plan
-    ensures { result ≡ judged_plan bad (keyless f) direction number iv.now buf.now pdu }
+) -> Result<Pieces, Refusal>
+    ensures { plan_as result ≡ judged_plan bad (keyless f) direction number iv.now buf.now pdu }
 {
-    let open = open_refusal(bad, f, direction, number, iv, buf.len(), pdu.length);
-    if open != refusals::DONE {
-        return plan::refused_plan(open);
-    }
+    open_refusal(bad, f, direction, number, iv, buf.len(), pdu.length)?;
     plan_of(pdu, buf)
 }
 
-pub fn has_no_piece(p: Plan) -> bool
-    ensures { result ≡ has_no_piece p }
+pub fn has_no_piece(pieces: Pieces) -> bool
+    ensures { result ≡ has_no_piece (with_pieces pieces.first pieces.second) }
 {
-    let first = p.first;
-    let second = p.second;
-    first.length == 0 && second.length == 0
+    pieces.first.length == 0 && pieces.second.length == 0
 }
 
-// Whose key a call with this plan reads: the slot's of its number, and no slot's where there is no piece.
-pub fn key_slot(p: Plan, number: u64) -> u64
-    ensures { result ≡ key_slot (not (has_no_piece p)) number }
+// Whose key a call so judged reads: the slot's of its number, and no slot's after a refusal, nor where there is no piece.
+pub fn key_slot(judged: Result<Pieces, Refusal>, number: u64) -> u64
+    ensures { result ≡ key_slot (not (has_no_piece (plan_as judged))) number }
 {
-    if has_no_piece(p) {
-        slot_calls::NO_SLOT
-    } else {
-        number
+    match judged {
+        Ok(pieces) if !has_no_piece(pieces) => number,
+        _ => slot_calls::NO_SLOT,
     }
 }
