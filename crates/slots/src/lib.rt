@@ -48,7 +48,7 @@ pub fn empty_table() -> [Slot; 32]
 pub fn is_no_fields(f: Fields) -> bool
     ensures { result ≡ is_no_fields f }
 {
-    (f.version | f.mcc | f.mnc) == 0 && (f.algorithm | f.usage | f.side | f.place) == 0
+    f == no_fields()
 }
 
 // No branch on a byte: quick, and the same work for every key.
@@ -63,6 +63,7 @@ fn all_zero(key: [u8; 24]) -> bool
 }
 
 // The key is looked at only where every field is zero.
+#[tactic(auto, unfolding(crate::specs::Slots::is_empty))]
 pub fn is_empty(slot: Slot) -> bool
     ensures { result ≡ is_empty slot }
 {
@@ -76,12 +77,14 @@ pub fn are_filled(f: Fields) -> bool
     fields::is_algorithm(asked.algorithm) && fields::rights_refusal(asked).is_ok()
 }
 
+#[tactic(auto, unfolding(crate::specs::Slots::is_filled))]
 pub fn is_filled(slot: Slot) -> bool
     ensures { result ≡ is_filled slot }
 {
     are_filled(slot.fields)
 }
 
+#[tactic(auto, unfolding(crate::specs::Slots::is_bad))]
 pub fn is_bad(slot: Slot) -> bool
     ensures { result ≡ is_bad slot }
 {
