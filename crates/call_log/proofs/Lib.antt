@@ -1,4 +1,5 @@
 pub mod Highs
 pub mod Feeds
+pub mod Reading
 pub mod Sizes
 pub mod Bytes

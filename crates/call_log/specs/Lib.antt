@@ -1,1 +1,3 @@
+pub mod Month
 pub mod Fed
+pub mod Read
