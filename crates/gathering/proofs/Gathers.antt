@@ -1,5 +1,5 @@
 -- Gathering record after record. Assumes nothing.
-use mathlib.Core.Path.{◌≡◌, refl, sym, ap, ◌∙◌}
+use mathlib.Core.Path.{◌≡◌, refl, sym, ap, subst, ◌∙◌}
 use mathlib.Core.Bool.{Bool, true, false, not, ◌&&◌}
 use mathlib.Core.List.{List, [], ◌∷◌}
 use Prim.Native.Nat.{ℕ, zero, suc, ◌≤◌, ◌<◌}
@@ -19,11 +19,10 @@ use Rattle.record_reader.specs.Record.{RecordRead, Entry, record_form, starts_fo
 use Rattle.forms.proofs.Forms.{spelt}
 use Rattle.record_reader.proofs.Records.{record-means}
 use Rattle.loading.proofs.Loads.{taken}
-use Rattle.gathering.specs.declared.Gathered.{Gathered}
-use Rattle.gathering.specs.Gathering.{gathered_to, not_gathered, slot_read, entered, gather_within, gather_on}
+use Rattle.gathering.specs.Gathering.{Gathered, gathered_to, not_gathered, slot_read, entered, gather_within, gather_on}
 
 -- a record that reads has the number of a slot
-pub read_number : (s : List ℕ) → (record_read s).refusal ≡ done → is_slot_number (record_read s).number ≡ true
+read_number : (s : List ℕ) → (record_read s).refusal ≡ done → is_slot_number (record_read s).number ≡ true
 unfolding record_read
 read_number s = go (read_at (record_form (starts_form s)) s 0) refl
   where
@@ -110,3 +109,24 @@ module _ (table : List Slot) (s : List ℕ) (some : 0 < length s) where
       sym one
       ∙ rw (ne_eqb (length s) 0 (λ z. omega arith), e)
       (fuel (length s) (length rest) (entered table (record_read s)).table rest (omega (arith, t.some, t.within)) (omega arith))
+
+-- of a text that is not at its end, a record is read: it ends the gathering, or is entered
+module _ (table : List Slot) (s : List ℕ) (some : 0 < length s) {read : RecordRead} (r : read ≡ record_read s) where
+  pub reads-number : read.refusal ≡ done → is_slot_number read.number ≡ true
+  reads-number = subst (λ (x : RecordRead). x.refusal ≡ done → is_slot_number x.number ≡ true) (sym r) (read_number s)
+
+  pub stops : not_gathered ≡ entered table read → not_gathered ≡ gather_on table s
+  stops e = sym (gather-stops table s some (ap (λ (g : Gathered). g.good) (sym (e ∙ ap (entered table) r))))
+
+  module _ {next : List Slot} (e : gathered_to next ≡ entered table read) where
+    good : (entered table (record_read s)).good ≡ true
+    good = ap (λ (g : Gathered). g.good) (sym (e ∙ ap (entered table) r))
+
+    pub takes : (0 < read.used) × (read.used ≤ length s)
+    takes =
+        let t = taken s (enters table (record_read s) good).reads in
+        let used = ap (λ (x : RecordRead). x.used) r in
+        (omega (arith, used, t.some), omega (arith, used, t.within))
+
+    pub goes-on : gather_on table s ≡ gather_on next (drop read.used s)
+    goes-on = gather-next table s some good ∙ (λ i. gather_on (sym (e ∙ ap (entered table) r) i).table (drop (sym r i).used s))
