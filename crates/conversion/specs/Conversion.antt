@@ -5,10 +5,13 @@ use Rattle.laws.specs.Choice.{pick}
 use Rattle.refusals.specs.Numbers.{done, conversion_text_bad, pair_list_bad, pair_differs}
 use Rattle.slots.specs.declared.Slot.{Slot}
 use Rattle.gathering.specs.Gathering.{gathered}
-use Rattle.conversion.specs.declared.Checked.{Checked}
 use Rattle.conversion_pairs.specs.Pairs.{pair_count, most_pairs, first_misnaming, first_differing, leaves_out}
 
 -- a refusal, and the place of the pair that it names, counted from 1; 0 where it names none
+pub record Checked : Type 0 where
+  pub refusal : ℕ
+  pub place : ℕ
+
 abbrev pub checked_as : ℕ → ℕ → Checked
 checked_as refusal place = record { refusal = refusal; place = place }
 

@@ -3,7 +3,7 @@ use Rattle.std.proofs.Common.{◌≡◌, ℕ, zero, suc, ◌+◌, Bool, ◌||◌
 use Rattle.std.specs.List.{list_any, position, position_or_len, range_with_len}
 use Rattle.std.proofs.lemmas.List.FromFn.{length-range_with_len}
 use Rattle.slots.specs.declared.Slot.{Slot}
-use Rattle.conversion_pairs.specs.Answers.{pair_at}
+use Rattle.conversion_pairs.specs.Answers.{place_of}
 use Rattle.conversion_pairs.specs.Pairs.{number_on, named_on, first_from, left_out, leaves_out}
 
 any_more : (p : ℕ → Bool) (a n : ℕ) → list_any p (range_with_len a (suc n)) ≡ list_any p (range_with_len a n) || p (a + n)
@@ -25,5 +25,5 @@ unfolding first_from
 first_place test i zero = refl
 first_place test i (suc n) = grind (arith, first_place test (i + 1) n)
 
-pub first_placed : (test : ℕ → Bool) (n : ℕ) → position test (range_with_len 0 n) ≡ pair_at (first_from test 0 n)
+pub first_placed : (test : ℕ → Bool) (n : ℕ) → place_of (position test (range_with_len 0 n)) ≡ first_from test 0 n
 first_placed test n = grind (arith, first_place test 0 n, length-range_with_len)

@@ -3,7 +3,7 @@
 #![tactic(auto)]
 
 ghost use Rattle.std.specs.Prelude.{◌≡◌, ◌<◌, ◌≤◌, IfSome};
-ghost use Rattle.conversion_pairs.specs.Answers.{side_of, pair_at};
+ghost use Rattle.conversion_pairs.specs.Answers.{side_of, place_of};
 ghost use Rattle.conversion_pairs.specs.Pairs.{pair_count, number_on, named_on, is_there, misnames_on, misnames, differs, first_misnaming, first_differing, left_out, leaves_out};
 
 use agreement::agrees;
@@ -75,7 +75,7 @@ fn differs(before: [Slot; 32], after: [Slot; 32], pairs: &[u64], i: usize) -> bo
 
 // The first pair that names a number not there or already named on its side.
 pub fn first_misnaming(before: [Slot; 32], after: [Slot; 32], pairs: &[u64]) -> Option<usize>
-    ensures first { result ≡ pair_at (first_misnaming before after pairs.now) }
+    ensures first { place_of result ≡ first_misnaming before after pairs.now }
     ensures within { IfSome result (λ i. i < pair_count pairs.now) }
 {
     (0..pair_count(pairs)).position(|i| misnames(before, after, pairs, i))
@@ -83,7 +83,7 @@ pub fn first_misnaming(before: [Slot; 32], after: [Slot; 32], pairs: &[u64]) -> 
 
 // The first pair that widens or differs.
 pub fn first_differing(before: [Slot; 32], after: [Slot; 32], pairs: &[u64]) -> Option<usize>
-    ensures first { result ≡ pair_at (first_differing before after pairs.now) }
+    ensures first { place_of result ≡ first_differing before after pairs.now }
     ensures within { IfSome result (λ i. i < pair_count pairs.now) }
 {
     (0..pair_count(pairs)).position(|i| differs(before, after, pairs, i))

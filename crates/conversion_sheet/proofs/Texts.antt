@@ -11,7 +11,7 @@ use Rattle.refusals.specs.Numbers.{done}
 use Rattle.writing.specs.Text.{digits, item, line_text}
 use Rattle.writing.specs.Writing.{Put, at_front}
 use Rattle.writing.proofs.Digits.{digits-fit, item-length, line-length}
-use Rattle.conversion.specs.declared.Checked.{Checked}
+use Rattle.conversion.specs.Conversion.{Checked}
 use Rattle.conversion_sheet.specs.declared.Report.{Report}
 use Rattle.conversion_sheet.specs.Report.{checked_text, conversion_report, report_room, report_of}
 

@@ -4,7 +4,7 @@ use Rattle.laws.specs.Choice.{pick}
 use Rattle.refusals.specs.Numbers.{done, conversion_text_bad}
 use Rattle.writing.specs.Text.{digits, item, line_text}
 use Rattle.writing.specs.Writing.{at_front}
-use Rattle.conversion.specs.declared.Checked.{Checked}
+use Rattle.conversion.specs.Conversion.{Checked}
 use Rattle.conversion_pairs.specs.Pairs.{pair_count}
 use Rattle.conversion.specs.Conversion.{checked_as, conversion_checked}
 use Rattle.conversion_sheet.specs.declared.Report.{Report}

@@ -9,9 +9,9 @@ use Rattle.laws.specs.Choice.{pick}
 use Rattle.refusals.specs.Numbers.{conversion_text_bad}
 use Rattle.fields.proofs.Ranges.{between-low, between-high}
 use Rattle.record_reader.specs.Record.{Entry}
-use Rattle.gathering.specs.declared.Gathered.{Gathered}
+use Rattle.gathering.specs.Gathering.{Gathered}
 use Rattle.gathering.specs.Gathering.{gathered}
-use Rattle.conversion.specs.declared.Checked.{Checked}
+use Rattle.conversion.specs.Conversion.{Checked}
 use Rattle.conversion.specs.Conversion.{checked_as, passes, pairs_checked, conversion_checked}
 use Rattle.conversions.specs.Conforms.{In, Known, Pair, Joins, Conforms, Converts, pairs_of}
 use Rattle.conversions.specs.Verdict.{pair_at, Misnames, before-missing, before-again, after-missing, after-again, Differs}

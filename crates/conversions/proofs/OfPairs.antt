@@ -17,7 +17,7 @@ use Rattle.slots.specs.Slots.{is_filled}
 use Rattle.slot_calls.specs.Seen.{slot_as}
 use Rattle.record_reader.specs.Record.{Entry}
 use Rattle.agreement.specs.Agreement.{agrees}
-use Rattle.conversion.specs.declared.Checked.{Checked}
+use Rattle.conversion.specs.Conversion.{Checked}
 use Rattle.conversion_pairs.specs.Pairs.{pair_count, number_on, misnames_on, misnames, differs, first_faulty, first_misnaming, first_differing, leaves_out}
 use Rattle.conversion.specs.Conversion.{checked_as, passes, naming, firstly, names_checked, rights_checked, pairs_checked}
 use Rattle.conversions.specs.Conforms.{In, Known, Pair, AlikeEntries, Numbered, Joins, Stands, Conforms, pairs_of}

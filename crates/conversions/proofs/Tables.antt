@@ -21,7 +21,7 @@ use Rattle.record_text.specs.Text.{form_text, InCode, Good}
 use Rattle.record_reader.specs.Record.{RecordRead, Entry, starts_form, entry_read, record_read}
 use Rattle.records.proofs.Promises.{good-is-read, read-is-good}
 use Rattle.loading.proofs.Loads.{taken}
-use Rattle.gathering.specs.declared.Gathered.{Gathered}
+use Rattle.gathering.specs.Gathering.{Gathered}
 use Rattle.gathering.specs.Gathering.{gathered_to, entered, gather_on, gathered}
 use Rattle.gathering.proofs.Gathers.{Entered, enters, enter-free, gather-end, gather-stops, gather-next}
 use Rattle.conversions.specs.Conforms.{In, Apart, Reads, Known, Numbered}

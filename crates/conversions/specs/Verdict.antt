@@ -3,7 +3,7 @@
 use Rattle.std.specs.Prelude.{◌≡◌, List, ℕ, ◌+◌, ◌<◌, ◌≤◌, length, get_or}
 use Rattle.refusals.specs.Numbers.{conversion_text_bad, pair_list_bad, pair_differs}
 use Rattle.record_reader.specs.Record.{Entry}
-use Rattle.conversion.specs.declared.Checked.{Checked}
+use Rattle.conversion.specs.Conversion.{Checked}
 use Rattle.conversion.specs.Conversion.{checked_as, passes}
 use Rattle.conversions.specs.Conforms.{In, Known, Pair, AlikeEntries, Numbered, Stands, Conforms}
 

@@ -22,7 +22,7 @@ use Rattle.loading.proofs.Loads.{taken}
 use Rattle.gathering.specs.Gathering.{Gathered, gathered_to, not_gathered, slot_read, entered, gather_within, gather_on}
 
 -- a record that reads has the number of a slot
-read_number : (s : List ℕ) → (record_read s).refusal ≡ done → is_slot_number (record_read s).number ≡ true
+pub read_number : (s : List ℕ) → (record_read s).refusal ≡ done → is_slot_number (record_read s).number ≡ true
 unfolding record_read
 read_number s = go (read_at (record_form (starts_form s)) s 0) refl
   where

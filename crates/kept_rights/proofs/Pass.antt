@@ -12,7 +12,7 @@ use Rattle.refusals.specs.Numbers.{done}
 use Rattle.slots.specs.declared.Slot.{Slot}
 use Rattle.two_runs.specs.Calls.{Call}
 use Rattle.loading.specs.Loading.{load_all}
-use Rattle.gathering.specs.declared.Gathered.{Gathered}
+use Rattle.gathering.specs.Gathering.{Gathered}
 use Rattle.gathering.specs.Gathering.{gathered}
 use Rattle.conversions.specs.Conforms.{Known}
 use Rattle.conversions.proofs.Tables.{held, text-known, known-gathered}
