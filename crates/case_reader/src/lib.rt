@@ -2,6 +2,7 @@
 #![tactic(auto)]
 
 ghost use Rattle.std.specs.Prelude.{true, ◌≡◌, ◌/◌, length};
+ghost use Rattle.refusals.specs.Refused.{number_of};
 ghost use Rattle.lines.specs.Line.{part};
 ghost use Rattle.line_values.specs.Parts.{number_of, are_bytes, bytes_of};
 ghost use Rattle.case_reader.specs.Case.{is_number, last_part, numbers_readable, bytes_readable, is_readable, case_of, refusal_of, Accepted};
@@ -10,6 +11,7 @@ use bench::keyed_refusal;
 use line_values::bytes::{are_bytes, read_bytes};
 use line_values::number::read_number;
 use lines::{after_spaces, part};
+use refusals::Refusal;
 
 fn is_number(line: &[u8], k: usize) -> bool
     ensures { result ≡ is_number k line.now }
@@ -65,8 +67,8 @@ pub fn is_readable(line: &[u8]) -> bool
     numbers_readable(line) && bytes_readable(line)
 }
 
-pub fn case_refusal(line: &[u8]) -> u8
-    ensures { result ≡ refusal_of (case_of line.now) }
+pub fn case_refusal(line: &[u8]) -> Result<(), Refusal>
+    ensures { number_of result ≡ refusal_of (case_of line.now) }
 {
     keyed_refusal(
         value(line, 0),

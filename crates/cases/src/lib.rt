@@ -32,11 +32,10 @@ fn put_case(out: &mut [u8], line: &[u8]) -> usize
     if !is_readable(line) {
         return put_bytes(out, 0, b"unreadable\n");
     }
-    let refusal = case_refusal(line);
-    if refusal != refusals::DONE {
-        return put_line(out, 0, b"refused=", refusal as u64);
+    match case_refusal(line) {
+        Ok(()) => put_accepted(out, line),
+        Err(refusal) => put_line(out, 0, b"refused=", refusal.number() as u64),
     }
-    put_accepted(out, line)
 }
 
 // The answer to the first line of a text, at the front of the buffer, and its length. The bytes after it stay.

@@ -1,11 +1,14 @@
 -- The input byte by byte and line by line. Assumes nothing.
 use mathlib.Core.Path.{◌≡◌, refl, sym, ap, ◌∙◌}
-use mathlib.Core.Bool.{Bool, true, false, ◌&&◌}
-use mathlib.Core.List.{List, [], ◌∷◌}
-use Prim.Native.Nat.{ℕ, zero, suc, ◌+◌, ◌*◌, ◌≤◌, ◌<◌}
+use mathlib.Core.Bool.{Bool, true, false, ◌&&◌, cond, not}
+use Rattle.std.specs.Prelude.{Option, MatchOption}
+use Rattle.std.specs.List.{position, position_or_len}
+use mathlib.Core.List.{List, [], ◌∷◌, ◌++◌}
+use Rattle.std.proofs.Common.{append_assoc, append-nil}
+use Prim.Native.Nat.{ℕ, zero, suc, ◌+◌, ◌≤◌, ◌<◌}
 use native.Mathlib.Numerals.{add-one}
 use native.Mathlib.Omega.{arith}
-use lib.Dec.{eqb}
+use lib.Dec.{eqb, ltb}
 use lib.ListN.{length, get_or, drop, drop_of_length-le}
 use lib.Seq.{drop-cons}
 use borrow.Author.Tests.{eq-eqb, ne_eqb}
@@ -29,20 +32,23 @@ module _ (s : List ℕ) (i : ℕ) (starts : Bool) where
   unfolding before_empty
   empty-end h = rw (drop_of_length-le s h) (omega arith)
 
--- the bytes of the first line, from byte i on
+-- the bytes of the first line, by the library's search
 
-module _ (s : List ℕ) (i : ℕ) where
-  pub line-here : i < length s → get_or s i 0 ≡ lf → i + line_size (drop i s) ≡ i + 1
-  unfolding line_size
-  line-here h e = rw (drop-cons s i 0 h, eq-eqb (get_or s i 0) lf e)
+line_by : (s : List ℕ) → line_size s ≡ cond (ltb (position_or_len (λ b. eqb b lf) s) (length s)) (position_or_len (λ b. eqb b lf) s + 1) (length s)
+unfolding line_size
+line_by [] = refl
+line_by (b ∷ s) = go (eqb b lf) (line_by s)
+  where
+    place : ℕ
+    place = position_or_len (λ x. eqb x lf) s
 
-  pub line-later : i < length s → (get_or s i 0 ≡ lf → ⊥) → i + line_size (drop i s) ≡ i + 1 + line_size (drop (i + 1) s)
-  unfolding line_size
-  line-later h n = rw (add-one, drop-cons s i 0 h, ne_eqb (get_or s i 0) lf n) (omega arith)
+    go : (t : Bool) → line_size s ≡ cond (ltb place (length s)) (place + 1) (length s)
+        → pick t 1 (suc (line_size s)) ≡ cond (ltb (cond (not t) (1 + place) 0) (suc (length s))) (cond (not t) (1 + place) 0 + 1) (suc (length s))
+    go true e = grind arith
+    go false e = grind arith
 
-  pub line-end : length s ≤ i → i + line_size (drop i s) ≡ i
-  unfolding line_size
-  line-end h = rw (drop_of_length-le s h) (omega arith)
+pub line_behind : (s : List ℕ) {r : Option ℕ} {n : ℕ} → r ≡ position (λ b. eqb b lf) s → MatchOption r (n ≡ length s) (λ i. n ≡ i + 1) → (n ≡ line_size s) × (n ≤ length s)
+line_behind s {r} {n} e m = grind (arith, line_by s)
 
 -- a line has some bytes, and no more than there are
 pub line-some : (s : List ℕ) → 0 < length s → (0 < line_size s) × (line_size s ≤ length s)
@@ -64,16 +70,6 @@ line-some (b ∷ s) h = go (eqb b lf) (within s)
 
 -- the numbers of the lines
 
-pub numbers-few : (k : ℕ) (s : List ℕ) → length (lines_numbers k s) ≤ 2 * k
-unfolding lines_numbers
-numbers-few zero s = omega arith
-numbers-few (suc k) s = go (eqb (length s) 0) (numbers-few k (drop (line_size s) s))
-  where
-    go : (t : Bool) → length (lines_numbers k (drop (line_size s) s)) ≤ 2 * k
-        → length (pick t [] ((named_by s).before ∷ (named_by s).after ∷ lines_numbers k (drop (line_size s) s))) ≤ 2 * suc k
-    go true h = omega arith
-    go false h = omega arith
-
 pub numbers-none : (k : ℕ) (s : List ℕ) → length s ≡ 0 → lines_numbers k s ≡ []
 unfolding lines_numbers
 numbers-none zero s e = refl
@@ -82,3 +78,21 @@ numbers-none (suc k) s e = rw (eq-eqb (length s) 0 e)
 pub numbers-next : (k m : ℕ) (s : List ℕ) → k ≡ suc m → 0 < length s → lines_numbers k s ≡ (named_by s).before ∷ (named_by s).after ∷ lines_numbers m (drop (line_size s) s)
 unfolding lines_numbers
 numbers-next k m s e h = ap (λ (n : ℕ). lines_numbers n s) e ∙ rw (ne_eqb (length s) 0 (λ z. omega arith))
+
+-- one line more, of the numbers that are read
+
+module _ (items s : List ℕ) (k : ℕ) where
+  pub pair-read : {m size before after : ℕ} {first both rest : List ℕ} → k ≡ suc m → 0 < length s
+      → before ≡ (named_by s).before → after ≡ (named_by s).after → size ≡ line_size s
+      → first ≡ items ++ before ∷ [] → both ≡ first ++ after ∷ [] → rest ≡ drop size s
+      → items ++ lines_numbers k s ≡ both ++ lines_numbers m rest
+  pair-read {m} {size} {before} {after} {first} {both} {rest} e some b a z f g r =
+      ap (λ (l : List ℕ). items ++ l) (numbers-next k m s e some)
+      ∙ (λ i. items ++ (sym b i ∷ sym a i ∷ lines_numbers m (drop (sym z i) s)))
+      ∙ (λ i. items ++ (before ∷ after ∷ lines_numbers m (sym r i)))
+      ∙ sym (append_assoc (items ++ before ∷ []) (after ∷ []) (lines_numbers m rest) ∙ append_assoc items (before ∷ []) (after ∷ lines_numbers m rest))
+      ∙ (λ i. (sym f i ++ after ∷ []) ++ lines_numbers m rest)
+      ∙ (λ i. sym g i ++ lines_numbers m rest)
+
+  pub pairs-end : lines_numbers k s ≡ [] → items ++ lines_numbers k s ≡ items
+  pairs-end e = ap (λ (l : List ℕ). items ++ l) e ∙ append-nil items

@@ -1,14 +1,12 @@
 -- The input of the program `converted` (document 02, [11]): before records, an empty line, after records, an empty line, and a line for each pair.
 -- Assumes nothing: these are definitions.
-use Rattle.std.specs.Prelude.{Bool, true, ◌&&◌, List, [], ◌∷◌, ℕ, zero, suc, ◌+◌, ◌-◌, ◌*◌, eqb, length, get_or, take, drop, replicate}
+use Rattle.std.specs.Prelude.{Bool, true, ◌&&◌, List, [], ◌∷◌, ℕ, zero, suc, ◌+◌, ◌-◌, ◌*◌, eqb, length, get_or, take, drop}
 use Rattle.laws.specs.Choice.{pick}
 use Rattle.writing.specs.Text.{ascii, lf}
-use Rattle.writing.specs.Writing.{at_front}
 use Rattle.forms.specs.Form.{literal, line}
 use Rattle.forms.specs.Decimals.{may_begin, may_follow, decimal}
 use Rattle.reading.specs.Reading.{Reading, good_to, wrong_at, onward, answer}
 use Rattle.conversion_sheet.specs.declared.input.Named.{Named}
-use Rattle.conversion_sheet.specs.declared.input.Numbers.{Numbers}
 
 abbrev pub blank : ℕ
 blank = 32
@@ -74,7 +72,3 @@ lines_read = 33
 
 unfoldable pub pair_numbers : List ℕ → List ℕ
 pair_numbers s = lines_numbers lines_read s
-
--- with zeros behind them
-abbrev pub pairs_read : List ℕ → Numbers
-pairs_read s = record { count = length (pair_numbers s); numbers = at_front (pair_numbers s) (replicate 66 0) }

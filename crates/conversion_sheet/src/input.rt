@@ -1,46 +1,40 @@
 // The parts of the program's input: a text up to its first empty line, what stands behind it, and the lines of pairs.
-ghost use Rattle.std.specs.Prelude.{◌≡◌, suc, ◌≤◌, length, get_or, drop};
+ghost use Rattle.std.specs.Prelude.{◌≡◌, ◌≤◌, length, get_or};
 ghost use Rattle.reading.specs.Reading.{reading_of};
-ghost use Rattle.conversion_sheet.specs.Input.{text_size, spaced_number, before_read, named_by, line_size, pairs_read};
+ghost use Rattle.conversion_sheet.specs.Input.{text_size, first_text, behind, spaced_number, before_read, named_by, line_size, pair_numbers};
 
+use arrayvec::ArrayVec;
 use reading::{Found, Reading, WrongAt, may_begin, may_follow, read_line, read_literal};
 
 // How many bytes stand before the first empty line.
-pub fn text_size(s: &[u8]) -> usize
+fn text_size(s: &[u8]) -> usize
     ensures { (result ≡ text_size s.now) × (result ≤ length s.now) }
 {
     let mut starts = true;
-    let mut i = 0;
-    while i < s.len() {
-        let ends = s[i] == 10;
+    for (i, b) in s.iter().enumerate() {
+        let ends = *b == b'\n';
         if starts && ends {
             return i;
         }
         starts = ends;
-        i += 1;
     }
-    i
+    s.len()
 }
 
-// The place behind the empty line that ends a text of this size, or the end.
-pub fn behind_text(s: &[u8], size: usize) -> usize
-    requires { size ≤ length s.now }
-    ensures { (result ≤ length s.now) × (drop result s.now ≡ drop (suc size) s.now) }
+// A text up to its first empty line, and what stands behind that line.
+pub fn split_text(s: &[u8]) -> (&[u8], &[u8])
+    ensures first { result.0.now ≡ first_text s.now }
+    ensures behind { result.1.now ≡ behind s.now }
 {
-    if size < s.len() {
-        return size + 1;
-    }
-    size
+    let size = text_size(s);
+    (&s[..size], s.get(size + 1..).unwrap_or(&[]))
 }
 
 // A byte, or 0 behind the end.
 fn byte_at(s: &[u8], at: usize) -> u8
     ensures { result ≡ get_or s.now at 0 }
 {
-    if at < s.len() {
-        return s[at];
-    }
-    0
+    s.get(at).copied().unwrap_or(0)
 }
 
 // A number of a record with a space behind it, of its first three bytes; the place is that behind it in a line.
@@ -105,45 +99,28 @@ fn named_by(s: &[u8]) -> Named
 fn line_size(s: &[u8]) -> usize
     ensures { (result ≡ line_size s.now) × (result ≤ length s.now) }
 {
-    let mut i = 0;
-    while i < s.len() {
-        if s[i] == 10 {
-            return i + 1;
-        }
-        i += 1;
-    }
-    i
+    s.iter()
+        .position(|b| *b == b'\n')
+        .map_or(s.len(), |i| i + 1)
 }
 
-// How many numbers there are, and the numbers, with zeros behind them.
-#[derive(Clone, Copy)]
-pub struct Numbers {
-    pub count: usize,
-    pub numbers: [u64; 66],
-}
+// A line above 32 is one pair too many, whatever follows it.
+const MOST_LINES: usize = 33;
 
 // The numbers of the pairs, a line each, of at most 33 lines.
-pub fn read_pairs(s: &[u8]) -> Numbers
-    ensures { result ≡ pairs_read s.now }
+pub fn read_pairs(s: &[u8]) -> ArrayVec<u64, 66>
+    ensures { result.items ≡ pair_numbers s.now }
 {
-    let mut numbers = [0u64; 66];
-    let mut at = 0;
-    let mut pair = 0;
-    while pair < 33 {
-        if s.len() <= at {
-            return Numbers {
-                count: 2 * pair,
-                numbers,
-            };
+    let mut numbers = ArrayVec::new();
+    let mut rest = s;
+    for _ in 0..MOST_LINES {
+        if rest.is_empty() {
+            break;
         }
-        let named = named_by(&s[at..]);
-        numbers[2 * pair] = named.before;
-        numbers[2 * pair + 1] = named.after;
-        at += line_size(&s[at..]);
-        pair += 1;
+        let named = named_by(rest);
+        numbers.push(named.before);
+        numbers.push(named.after);
+        rest = &rest[line_size(rest)..];
     }
-    Numbers {
-        count: 2 * pair,
-        numbers,
-    }
+    numbers
 }

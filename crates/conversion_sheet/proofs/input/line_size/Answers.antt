@@ -1,27 +1,13 @@
--- `input::line_size`: the bytes passed are no LF. Assumes nothing.
-use mathlib.Core.Path.{sym, ◌∙◌}
-use Prim.Native.Nat.{◌-◌}
-use native.Mathlib.Omega.{arith}
-use borrow.Author.Rules.{rules}
-use Rattle.conversion_sheet.proofs.Inputs.{line-here, line-later, line-end}
+-- `input::line_size`: the place behind the first LF. Assumes nothing.
+use Rattle.std.proofs.Common.{rules, tests, ◌≡◌, nat_eq}
+use Rattle.std.specs.List.{position}
+use Rattle.std.proofs.lemmas.Iterator.{YieldsList-from_slice}
+use Rattle.std.proofs.lemmas.Iterator.Search.{position_from_yields_List}
+use Rattle.conversion_sheet.proofs.Inputs.{line_behind}
 use Rattle.conversion_sheet.proofs.input.line_size.Goals as goal
-
-pub loop-i-init : goal.loop-i-init
-loop-i-init c = (search rules, omega arith)
-
-pub returns-then-s-i-eq10 : goal.returns-then-s-i-eq10
-returns-then-s-i-eq10 c =
-    let loop = c.loop-i in
-    let test = c.loop-i-test.true in
-    let e = loop.invariant.1 ∙ line-here c.args.s.now loop.i test c.if-s-i-eq10.true in
-    (sym e, omega (arith, test))
-
-pub loop-i-preserved : goal.loop-i-preserved
-loop-i-preserved c =
-    let loop = c.loop-i in
-    (search rules, loop.invariant.1 ∙ line-later _ loop.i c.loop-i-test.true c.if-s-i-eq10.false)
 
 pub returns : goal.returns
 returns c =
-    let loop = c.loop-i in
-    (sym (loop.invariant.1 ∙ line-end _ loop.i (search rules)), loop.invariant.0)
+    let found : c.position.result ≡ position (λ b. nat_eq b 10) c.args.s.now =
+    position_from_yields_List (λ b. nat_eq b 10) _ _ c.position.result c.position.ensures.ran (YieldsList-from_slice c.args.s.now cc) (λ x b q k. search (rules, tests)) in
+    line_behind _ found (search rules)

@@ -1,36 +1,39 @@
--- `input::read_pairs`: line by line. Assumes nothing.
-use mathlib.Core.Logic.{inl, inr}
-use mathlib.Core.Path.{◌≡◌, ap, ◌∙◌}
-use mathlib.Core.List.{List}
-use Prim.Native.Nat.{ℕ, ◌-◌, ◌<◌}
-use native.Mathlib.Omega.{arith}
-use borrow.Author.Rules.{rules}
-use lib.ListN.{length, take, drop, length-drop}
-use lib.Seq.{take_all}
+-- `input::read_pairs`: the numbers of the lines passed, and those of the lines that are left. Assumes nothing.
+use Rattle.std.proofs.Common.{rules, arith, ◌≡◌, ◌-◌, ◌+◌, ◌<◌, ◌++◌, List, ℕ, suc, length, take, drop, sym, ap, ◌∙◌, length-drop}
+use Rattle.std.proofs.Math.Seq.{take_all}
 use Rattle.conversion_sheet.specs.declared.input.Named.{Named}
-use Rattle.conversion_sheet.specs.Input.{named_by, line_size}
-use Rattle.conversion_sheet.proofs.Numbers.{going-none, going_more, going_end}
+use Rattle.conversion_sheet.specs.Input.{lines_numbers, pair_numbers}
+use Rattle.conversion_sheet.proofs.Inputs.{numbers-none, pair-read, pairs-end}
 use Rattle.conversion_sheet.proofs.input.read_pairs.Goals as goal
 
-pub loop-pair-init : goal.loop-pair-init
-loop-pair-init c = going-none c.args.s.now
+pub loop-init : goal.loop-init
+unfolding pair_numbers
+loop-init c =
+    let none = c.new-numbers.ensures in
+    (ap length none, ap (λ (l : List ℕ). l ++ lines_numbers 33 c.args.s.now) (sym none))
 
-pub returns-then-s-at : goal.returns-then-s-at
-returns-then-s-at c = going_end c.loop-pair.invariant (inl c.if-s-at.true)
+pub loop-preserved : goal.loop-preserved
+loop-preserved c =
+    let rest = c.loop.rest.now in
+    let items = c.loop.numbers.items in
+    let size = c.line_size.result in
+    let some : 0 < length rest = search rules in
+    let within = c.line_size.ensures.1 in
+    let fuel : 33 - c.loop.counter ≡ suc (33 - (c.loop.counter + 1)) = omega arith in
+    let left : take (length rest - size) (drop size rest) ≡ drop size rest = take_all (length rest - size) (drop size rest) (simp length-drop (omega arith)) in
+    let named = c.named_by-named.ensures in (
+      omega (arith, c.push.ensures.len, c.push-in-loop.ensures.len, c.loop.invariant.0),
+      c.loop.invariant.1
+          ∙ pair-read items rest _ fuel some (ap (λ (n : Named). n.«before») named) (ap (λ (n : Named). n.after) named) c.line_size.ensures.0 c.push.ensures.items c.push-in-loop.ensures.items left,
+    )
 
--- what is left of the text from a place on
+pub returns-after-loop : goal.returns-after-loop
+unfolding lines_numbers
+returns-after-loop c =
+    let last : 33 - c.loop.counter ≡ 0 = omega arith in
+    sym (c.loop.invariant.1 ∙ pairs-end c.loop.numbers.items c.loop.rest.now _ (ap (λ k. lines_numbers k c.loop.rest.now) last))
 
-whole : (s : List ℕ) (at : ℕ) → at < length s → take (length s - at) (drop at s) ≡ drop at s
-whole s at h = take_all (length s - at) (drop at s) (simp length-drop (omega arith))
-
-pub loop-pair-preserved : goal.loop-pair-preserved
-loop-pair-preserved c =
-    let s = c.args.s.now in
-    let at = c.loop-pair.at in
-    let some : at < length s = omega (arith, c.if-s-at.false) in
-    let named = c.named_by-named.ensures ∙ ap named_by (whole s at some) in
-    let size = c.line_size-at.ensures.0 ∙ ap line_size (whole s at some) in
-    going_more c.loop-pair.invariant some c.loop-pair-test.true (ap (λ (n : Named). n.«before») named) (ap (λ (n : Named). n.after) named) size
-
-pub returns : goal.returns
-returns c = going_end c.loop-pair.invariant (inr (search rules))
+pub returns-then-is_empty : goal.returns-then-is_empty
+returns-then-is_empty c =
+    let empty : length c.loop.rest.now ≡ 0 = search rules in
+    sym (c.loop.invariant.1 ∙ pairs-end c.loop.numbers.items c.loop.rest.now _ (numbers-none _ _ empty))
