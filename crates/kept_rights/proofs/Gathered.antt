@@ -19,7 +19,7 @@ use Rattle.slots.proofs.Tables.{filled-not-bad, good-set}
 use Rattle.slot_calls.proofs.Passed.{load-passed}
 use Rattle.slot_calls.proofs.Left.{Good, empty-table-good}
 use Rattle.record_reader.specs.Record.{RecordRead, Entry, record_read}
-use Rattle.loading.specs.declared.Loaded.{Loaded}
+use Rattle.loading.specs.Loading.{Loaded}
 use Rattle.loading.specs.Loading.{filled, refused, load_within, load_all}
 use Rattle.gathering.specs.Gathering.{gathered_to, not_gathered, entered, gather_within, gather_on, gathered}
 use Rattle.gathering.proofs.Gathers.{enter-free}

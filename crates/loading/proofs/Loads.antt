@@ -1,9 +1,9 @@
 -- Loading record after record. Assumes nothing.
-use mathlib.Core.Path.{◌≡◌, refl, sym, ap, ◌∙◌}
+use mathlib.Core.Path.{◌≡◌, refl, sym, ap, subst, ◌∙◌}
 use mathlib.Core.Logic.{◌⊎◌, inl, inr, ⊎_elim}
 use mathlib.Core.Bool.{Bool, true, false, not}
 use mathlib.Core.List.{List}
-use Prim.Native.Nat.{ℕ, zero, suc, ◌+◌, ◌<◌, ◌≤◌}
+use Prim.Native.Nat.{ℕ, zero, suc, ◌+◌, ◌-◌, ◌<◌, ◌≤◌}
 use native.Mathlib.Omega.{arith}
 use lib.Dec.{eqb}
 use lib.ListN.{length, drop, length-append}
@@ -21,8 +21,7 @@ use Rattle.forms.specs.Form.{Outcome, found, wrong, read_at}
 use Rattle.record_reader.specs.Record.{RecordRead, Entry, record_form, starts_form, read_answer, record_read}
 use Rattle.forms.proofs.Forms.{spelt}
 use Rattle.record_reader.proofs.Records.{record-means}
-use Rattle.loading.specs.declared.Loaded.{Loaded}
-use Rattle.loading.specs.Loading.{filled, refused, load_within}
+use Rattle.loading.specs.Loading.{Loaded, filled, refused, load_within, load_all}
 
 -- a record that reads takes some bytes, and no more than there are
 pub record Taken (s : List ℕ) (used : ℕ) : Type 0 where
@@ -47,6 +46,9 @@ taken s = go (read_at (record_form (starts_form s)) s 0) refl
           within = omega (arith, r.after, simp length-append at (ap length r.splits));
         }
     go (wrong place) h z = absurd (omega arith)
+
+pub takes : (s : List ℕ) {read : RecordRead} → read ≡ record_read s → read.refusal ≡ done → Taken s read.used
+takes s r good = subst (λ (x : RecordRead). Taken s x.used) (sym r) (taken s (ap (λ (x : RecordRead). x.refusal) (sym r) ∙ good))
 
 -- a text that is not read is refused with 15
 text-bad : (s : List ℕ) → ((record_read s).refusal ≡ done) ⊎ ((record_read s).refusal ≡ record_text_bad)
@@ -109,3 +111,11 @@ module _ (k : ℕ) (table : List Slot) (position : ℕ) (s : List ℕ) where
 
       pub load-next : change.refusal ≡ done → load_within (suc k) table position s ≡ load_within k change.table (position + 1) (drop read.used s)
       load-next e = both ∙ rw (filled-not, eq-eqb read.refusal done good, eq-eqb change.refusal done e)
+
+-- of a sheet, a text is left that is not at its end: there is a record more for each of its bytes
+pub one-more : (sheet rest : List ℕ) (position : ℕ) (table : List Slot)
+    → 0 < length rest → position + length rest ≤ length sheet + 1 → load_all sheet ≡ load_within (length sheet + 1 - position) table position rest
+    → load_all sheet ≡ load_within (suc (length sheet - position)) table position rest
+one-more sheet rest position table some h e =
+    let z : length sheet + 1 - position ≡ suc (length sheet - position) = omega arith in
+    e ∙ ap (λ (n : ℕ). load_within n table position rest) z

@@ -7,7 +7,14 @@ use Rattle.fields.specs.Fields.{asked_of}
 use Rattle.slots.specs.Slots.{empty_table}
 use Rattle.slot_calls.specs.Calls.{loaded}
 use Rattle.record_reader.specs.Record.{record_read}
-use Rattle.loading.specs.declared.Loaded.{Loaded}
+
+-- the table; or the refusal of a record, the record's place in the sheet counted from 1, line and column, with an empty table
+pub record Loaded : Type 0 where
+  pub refusal : ℕ
+  pub position : ℕ
+  pub line : ℕ
+  pub column : ℕ
+  pub table : List Slot
 
 -- every record is loaded
 abbrev pub filled : List Slot → Loaded

@@ -16,7 +16,7 @@ use Rattle.slots.specs.Slots.{is_filled}
 use Rattle.writing.specs.Writing.{Room}
 use Rattle.writing.specs.Text.{digits, line_text, item}
 use Rattle.writing.proofs.Digits.{digits-fit, item-length, line-length}
-use Rattle.loading.specs.declared.Loaded.{Loaded}
+use Rattle.loading.specs.Loading.{Loaded}
 use Rattle.sheet.specs.Sheet.{filled_count, table_text, refusal_text, loaded_text, room}
 use Rattle.slot_lines.specs.Lines.{slot_lines}
 

@@ -7,7 +7,7 @@ use Rattle.slots.specs.Slots.{is_filled}
 use Rattle.writing.specs.Text.{digits, item, line_text}
 use Rattle.writing.specs.Writing.{at_front}
 use Rattle.slot_lines.specs.Lines.{slot_lines}
-use Rattle.loading.specs.declared.Loaded.{Loaded}
+use Rattle.loading.specs.Loading.{Loaded}
 use Rattle.loading.specs.Loading.{load_all}
 
 unfoldable pub filled_count : List Slot → ℕ
