@@ -2,7 +2,7 @@
 #![tactic(auto)]
 
 ghost use Rattle.std.specs.Prelude.{true, ◌≡◌, ◌/◌, length};
-ghost use Rattle.refusals.specs.Refused.{number_of};
+ghost use Rattle.refusals.specs.Refused.{number_of as refusal_number};
 ghost use Rattle.lines.specs.Line.{part};
 ghost use Rattle.line_values.specs.Parts.{number_of, are_bytes, bytes_of};
 ghost use Rattle.case_reader.specs.Case.{is_number, last_part, numbers_readable, bytes_readable, is_readable, case_of, refusal_of, Accepted};
@@ -68,7 +68,7 @@ pub fn is_readable(line: &[u8]) -> bool
 }
 
 pub fn case_refusal(line: &[u8]) -> Result<(), Refusal>
-    ensures { number_of result ≡ refusal_of (case_of line.now) }
+    ensures { refusal_number result ≡ refusal_of (case_of line.now) }
 {
     keyed_refusal(
         value(line, 0),

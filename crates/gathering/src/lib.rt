@@ -31,8 +31,9 @@ pub fn gather(text: &[u8]) -> Option<[Slot; 32]>
     let mut table = empty_table();
     let mut rest = text;
     while !rest.is_empty() {
-        let Ok(read) = read_record(rest) else {
-            return None;
+        let read = match read_record(rest) {
+            Ok(read) => read,
+            Err(_) => return None,
         };
         let used = read.used;
         table = enter(table, read)?;
