@@ -2,8 +2,10 @@
 #![tactic(auto)]
 
 ghost use Rattle.std.specs.Prelude.{◌≡◌};
-ghost use Rattle.refusals.specs.Numbers as numbers;
 ghost use Rattle.refusals.specs.Refused.{number, number_of, refused_when};
+
+// The number of a call that is not refused.
+pub const DONE: u8 = 0;
 
 // Each has the name of its number in specs/Numbers.antt.
 #[derive(Clone, Copy, Debug, PartialEq, Eq)]
@@ -84,88 +86,7 @@ pub fn number_of(judged: Result<(), Refusal>) -> u8
     ensures { result ≡ number_of judged }
 {
     match judged {
-        Ok(()) => 0,
+        Ok(()) => DONE,
         Err(refusal) => refusal.number(),
     }
-}
-
-pub const DONE: u8 = 0;
-
-// algorithm not 5, 6, 7
-pub const ALGORITHM: u8 = 1;
-
-// bench key not 24 bytes
-pub const BENCH_KEY: u8 = 2;
-
-// IV not 10 bytes
-pub const IV_SIZE: u8 = 3;
-
-// length 0, or skip + length above 8,288
-pub const LENGTH: u8 = 4;
-
-// buffer above 8,192 bytes
-pub const BUFFER: u8 = 5;
-
-// start + length above 8 times the buffer's bytes
-pub const SPAN: u8 = 6;
-
-// slot number not 1..32
-pub const SLOT_NUMBER: u8 = 7;
-
-// slot empty
-pub const SLOT_EMPTY: u8 = 8;
-
-// target slot filled
-pub const TARGET_FILLED: u8 = 9;
-
-// use or direction code unknown
-pub const CODE: u8 = 10;
-
-// side above 1 or place above 79
-pub const SIDE_OR_PLACE: u8 = 11;
-
-// use doesn't include the direction
-pub const DIRECTION: u8 = 12;
-
-// IV side bit wrong
-pub const IV_SIDE: u8 = 13;
-
-// asked use not within the present use
-pub const USE_WIDER: u8 = 14;
-
-// record text bad; line and column given
-pub const RECORD_TEXT: u8 = 15;
-
-// table not 32 records, or a bad slot in it
-pub const TABLE: u8 = 16;
-
-// record text longer than the buffer
-pub const RECORD_ROOM: u8 = 17;
-
-// PDU kind, state or flag unknown, or PDU above 8,288 bits
-pub const PDU_CODE: u8 = 18;
-
-// PDU parts don't fit
-pub const PDU_PARTS: u8 = 19;
-
-// mobile country code above 1,023 or mobile network code above 16,383
-pub const NETWORK: u8 = 20;
-
-// algorithm out of service (document 02, [9])
-pub const OUT_OF_SERVICE: u8 = 21;
-
-// conversion check (document 02, [11]): a text of records does not read, or repeats a number
-pub const CONVERSION_TEXT: u8 = 22;
-
-// conversion check: above 32 pairs, a number in them that is not there or is repeated, or an after record without a pair
-pub const PAIR_LIST: u8 = 23;
-
-// conversion check: a pair that widens its use, or differs in another field or the key
-pub const PAIR_DIFFERS: u8 = 24;
-
-// The number where the test holds, else what comes later in the order. An order of refusals is a value, and reads as in specs/.
-pub fn refuse(test: bool, number: u8, later: u8) -> u8
-    ensures { result ≡ numbers.refuse test number later }
-{
-    if test { number } else { later }
 }
