@@ -1,12 +1,10 @@
 -- `cases::put_case`: each answer by the tests that led to it. Assumes nothing.
 use mathlib.Core.Path.{sym, ap, ◌∙◌}
-use Prim.Native.Nat.{◌≤◌}
 use native.Mathlib.Omega.{arith}
-use lib.ListN.{length}
 use Rattle.refusals.proofs.Judged.{number-above_0}
 use Rattle.writing.proofs.Puts.{put-length, put_as}
 use Rattle.case_reader.specs.Case.{Accepted}
-use Rattle.cases.specs.Answer.{refused_text, answer_room}
+use Rattle.cases.specs.Answer.{refused_text}
 use Rattle.cases.proofs.Texts.{text-unreadable, text-refused, text-accepted, accepted-fits, refused-fits}
 use Rattle.cases.proofs.put_case.Goals as goal
 
@@ -23,8 +21,7 @@ returns-in-Err c =
     let put = c.put_line.ensures in
     let refused = c.number.ensures ∙ c.in-Err.ensures in
     let readable = sym c.is_readable.ensures ∙ c.if-not-is_readable.false in
-    let above = number-above_0 c.in-Err.refusal in
-    (
+    let above = number-above_0 c.in-Err.refusal in (
       omega (arith, put.ends, refused-fits c.number.result (omega arith)),
       put_as (ap refused_text refused ∙ text-refused _ readable (λ z. omega (arith, c.in-Err.ensures, z))) put,
     )
@@ -36,7 +33,7 @@ put_accepted-requires c =
 
 pub returns-in-Ok : goal.returns-in-Ok
 returns-in-Ok c =
-    let a = (put_accepted-requires c).0 in
+    let a : Accepted c.args.line.now = record { readable = sym c.is_readable.ensures ∙ c.if-not-is_readable.false; passed = sym c.in-Ok.ensures } in
     let put = c.put_accepted.ensures in
     (omega (arith, put.ends, accepted-fits a), put_as (text-accepted _ a) put)
 
