@@ -1,13 +1,14 @@
 -- How long the lines of a month sheet are. Assumes nothing.
 use mathlib.Core.Bool.{Bool, true, false}
-use mathlib.Core.List.{◌++◌}
-use Prim.Native.Nat.{ℕ, ◌<◌, ◌≤◌, ◌/◌}
+use mathlib.Core.List.{List, ◌++◌}
+use Prim.Native.Nat.{ℕ, ◌+◌, ◌<◌, ◌≤◌, ◌/◌, ◌%◌}
 use native.Mathlib.Nat.{div-le_self}
 use native.Mathlib.Omega.{arith}
 use lib.Dec.{eqb}
 use lib.ListN.{length}
 use Rattle.laws.specs.Choice.{pick}
 use Rattle.writing.specs.Text.{digits, line_text, item}
+use Rattle.writing.specs.Writing.{Room}
 use Rattle.writing.proofs.Digits.{digits-fit, item-length, line-length}
 use Rattle.shares.specs.Share.{gcd, fraction_of, share_of}
 use Rattle.month_sheet.specs.Sheet.{share_text, row_text, count_text, total_text, wrong_line_text, longest_share, longest_row, longest_count, longest_total}
@@ -87,3 +88,15 @@ module _ (a b c d : ℕ) (ha : a < 18446744073709551616) (hb : b < 1844674407370
         twenty d hd,
         twenty e he,
       )
+
+-- so there is room for them
+pub total-room : (buffer : List ℕ) (at a b c d : ℕ) → at + longest_total ≤ length buffer
+    → a < 18446744073709551616 → b < 18446744073709551616 → c < 18446744073709551616 → d < 18446744073709551616
+    → Room buffer at (total_text a b c d)
+total-room buffer at a b c d h ha hb hc hd = record { fits = omega (arith, total-short a b c d ha hb hc hd) }
+
+pub row-room : (buffer : List ℕ) (at row c d e all : ℕ) → (at + longest_row ≤ length buffer) × (row < 64)
+    → c < 18446744073709551616 → d < 18446744073709551616 → e < 18446744073709551616 → all < 18446744073709551616
+    → Room buffer at (row_text (row / 2 + 1) (row % 2 + 1) c d e all)
+row-room buffer at row c d e all h hc hd he hl =
+    record { fits = omega (arith, row-short (row / 2 + 1) (row % 2 + 1) c d (omega arith) (omega arith) hc hd e all he hl) }
