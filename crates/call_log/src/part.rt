@@ -1,7 +1,7 @@
 // A line that is being read, and what a byte makes of it.
-ghost use Rattle.std.specs.Prelude.{◌≡◌, ◌+◌, ◌<◌, leb};
+ghost use Rattle.std.specs.Prelude.{◌≡◌, ◌+◌, leb};
 ghost use Rattle.laws.specs.Choice.{pick};
-ghost use Rattle.call_log.specs.Fed.{line_start, final_part, stopped, so_far, next_part, high_of, part_name, after_digit, first_digit, in_line};
+ghost use Rattle.call_log.specs.Fed.{line_start, final_part, stopped, next_part, high_of, part_name, after_digit, first_digit, in_line};
 ghost use Rattle.call_log.specs.Read.{part_number, line_of, read_month};
 
 use crate::ReadMonth;

@@ -2,7 +2,7 @@
 // beside the `=`. A line comes without the LF that ends it.
 #![tactic(auto)]
 
-ghost use Rattle.std.specs.Prelude.{◌≡◌, ◌≤◌, length, take, drop};
+ghost use Rattle.std.specs.Prelude.{◌≡◌};
 ghost use Rattle.line_parts.specs.Line.{ends_with, leading, trailing, bare, before_equals, after_equals, has_equals, name_in, value_in, is_spaced};
 
 use lines::index_of;

@@ -6,7 +6,7 @@ pub mod figures;
 ghost use Rattle.std.specs.Prelude.{◌≡◌};
 ghost use Rattle.logged_calls.specs.Log.{sound_accepted, sound_refused, is_sound};
 
-// What a line says.
+// What a line says, in the numbers of its text: a direction or a code that is none is still read, and `is_sound` tells.
 #[derive(Clone, Copy)]
 pub struct Call {
     pub slot: u64,

@@ -3,9 +3,7 @@
 
 mod changes;
 
-ghost use Rattle.std.specs.Prelude.{◌≡◌, ◌<◌, ◌≤◌, length};
-ghost use Rattle.writing.specs.Text.{digits, line_text};
-ghost use Rattle.writing.specs.Writing.{Put};
+ghost use Rattle.std.specs.Prelude.{◌≡◌};
 ghost use Rattle.refusals.specs.Refused.{number_of};
 ghost use Rattle.mending.specs.Changes.{is_record};
 ghost use Rattle.mending.specs.Answer.{length_of, mend_as, mend_out, print_as, print_out};

@@ -8,7 +8,6 @@ ghost use Rattle.logged_calls.specs.Figures.{total_row, calls_at, bits_at, block
 ghost use Rattle.call_log.specs.Fed.{fed_to};
 ghost use Rattle.call_log.specs.Read.{read_month};
 ghost use Rattle.month_sheet.specs.Sheet.{
-  share_text,
   row_text,
   count_text,
   total_text,
@@ -16,7 +15,6 @@ ghost use Rattle.month_sheet.specs.Sheet.{
   row_in,
   sheet_text,
   sums_in,
-  wrong_line_text,
   whole_log,
   printed_length,
   printed_buffer,
