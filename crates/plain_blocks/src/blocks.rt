@@ -1,5 +1,5 @@
 // The blocks of the keystream: clauses 5.4, 6.4, 7.4.
-ghost use Rattle.std.specs.Prelude.{◌++◌, ◌≡◌, ◌%◌, ◌<◌, get_or};
+ghost use Rattle.std.specs.Prelude.{◌++◌, ◌≡◌, ◌%◌};
 ghost use Rattle.tea.specs.Keystream.{tag, block_of};
 
 use tea::mode::Mode;
@@ -26,25 +26,13 @@ fn tag(digit: u8, j: usize) -> [u8; 8]
     ]
 }
 
-// p[k]: IVM first, then the tag.
-fn plaintext_byte(ivm: [u8; 24], tag: [u8; 8], k: usize) -> u8
-    requires { k < 32 }
-    ensures { result ≡ get_or (ivm ++ tag) k 0 }
-{
-    if k < 24 {
-        return ivm[k];
-    }
-    tag[k - 24]
-}
-
-// p[0] to p[31].
+// p[0] to p[31]: IVM first, then the tag.
 fn plaintext(ivm: [u8; 24], tag: [u8; 8]) -> [u8; 32]
     ensures { result ≡ ivm ++ tag }
 {
     let mut p = [0u8; 32];
-    for k in 0..32 {
-        p[k] = plaintext_byte(ivm, tag, k);
-    }
+    p[..24].copy_from_slice(&ivm);
+    p[24..].copy_from_slice(&tag);
     p
 }
 

@@ -1,21 +1,20 @@
--- `plain_blocks::blocks::plaintext`: the entries below k are those of the two lists. Assumes nothing.
-use mathlib.Core.Path.{◌≡◌, refl, ◌∙◌}
-use mathlib.Core.List.{◌++◌}
+-- `plain_blocks::blocks::plaintext`: the mode value in front, and the tag behind it. Assumes nothing.
+use mathlib.Core.List.{List, ◌++◌}
+use mathlib.Core.Path.{◌≡◌, refl}
+use Prim.Native.Nat.{ℕ, ◌+◌, ◌≤◌}
 use native.Mathlib.Omega.{arith}
 use borrow.Author.Rules.{rules}
+use borrow.Rule.Slice.PartMut.{put_mid}
 use lib.ListN.{length, length-append}
-use Rattle.laws.proofs.Lists.{fill_none, fill_more, fill-all, tabulate-entries}
+use Rattle.std.proofs.lemmas.Slice.{overwrites}
 use Rattle.plain_blocks.proofs.blocks.plaintext.Goals as goal
 
-pub loop-k-init : goal.loop-k-init
-loop-k-init c = fill_none refl
-
-pub loop-k-preserved : goal.loop-k-preserved
-loop-k-preserved c = fill_more c.loop-k.invariant c.loop-k-test.true _ c.plaintext_byte.ensures
+behind : (xs zs ys : List ℕ) → length xs ≡ 24 → length zs ≡ 8 → length ys ≡ 8 → put_mid 24 8 (xs ++ zs) ys ≡ xs ++ ys
+behind xs zs ys e f g =
+    let whole : length (xs ++ zs) ≤ 24 + 8 = simp length-append (omega arith) in
+    search (rules, overwrites)
 
 pub returns : goal.returns
 returns c =
-    let a = c.args in
-    let ivm : length a.ivm ≡ 24 = search rules in
-    let tag : length a.tag ≡ 8 = search rules in
-    fill-all c.loop-k.invariant c.loop-k-test.false ∙ tabulate-entries 0 (a.ivm ++ a.tag) 32 (simp length-append (omega (arith, ivm, tag)))
+    let ivm : length c.args.ivm ≡ 24 = search rules in
+    rw (c.copy_from_slice.ensures.after, c.copy_from_slice-2.ensures.after) (behind c.args.ivm _ c.args.tag ivm refl (search rules))

@@ -22,9 +22,9 @@ loop-k-preserved c =
     let h : k < 24 = c.loop-k-test.true in
     let v : c.byte-v.result ≡ get_or (mixed_value a.iv) k 0 = c.byte-v.ensures ∙ mixed-at a.iv k h in
     halves-more c.loop-k.invariant h _ _ _ _
-    (c.first-x.ensures ∙ ap (λ (m : ℕ). combined a.f.now (get_or a.ck.now k 0 / 16) (m / 16)) v)
-    (c.second-y.ensures ∙ ap (λ (m : ℕ). combined a.f.now (get_or a.ck.now k 0 % 16) (m % 16)) v)
-    c.key_byte.ensures c.value_byte.ensures
+    (c.combine-x.ensures ∙ ap (λ (m : ℕ). combined a.f.now (get_or a.ck.now k 0 / 16) (m / 16)) v)
+    (c.combine-y.ensures ∙ ap (λ (m : ℕ). combined a.f.now (get_or a.ck.now k 0 % 16) (m % 16)) v)
+    c.join_halves.ensures c.join_halves-in-loop-k.ensures
 
 pub loop-k-init : goal.loop-k-init
 loop-k-init c = halves-none
