@@ -29,6 +29,7 @@ fn inv_last_round(s: [[u8; 8]; 4], w: &[u32; 120], n: usize, table: &InvSBox) ->
     add_round_key(inv_shift_row(inv_byte_sub(s, table)), w, n)
 }
 
+// The rounds in their order. A round's result goes through `u`, since the proof is not made where it is laid in `t`.
 fn decrypt(s: [[u8; 8]; 4], w: &[u32; 120], table: &InvSBox) -> [[u8; 8]; 4]
     ensures { result ≡ decrypted w.now s }
 {

@@ -34,7 +34,7 @@ fn to_block(s: [[u8; 8]; 4]) -> [u8; 32]
     b
 }
 
-// 4.4: the initial key, rounds 1 to 13, and the final round.
+// 4.4: the initial key, rounds 1 to 13, and the final round. A round's result goes through `u`, since the proof is not made where it is laid in `t`.
 fn encrypt(s: [[u8; 8]; 4], w: [[u8; 4]; 120]) -> [[u8; 8]; 4]
     ensures { result ≡ encrypted (words_of w) s }
 {
