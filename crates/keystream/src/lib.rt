@@ -41,11 +41,11 @@ struct Work {
 // What the blocks of a keystream are made with: its mode, the schedule of the mode's key, and the tables.
 #[derive(Drop)]
 struct Engine<'a> {
-    mode: Mode,
+    mode: &'a Mode,
     w: &'a [u32; 120],
     table: &'a SBox,
     mixes: &'a ProductTable,
-    ghost keyed: { w.now ≡ tabulate (key_word mode.key) 0 120 },
+    ghost keyed: { w.now ≡ tabulate (key_word mode.now.key) 0 120 },
 }
 
 // Fills the schedule: the one caller of expand_key.
@@ -65,7 +65,7 @@ fn begin(w: &mut [u32; 120], key: [u8; 24], table: &SBox) -> Work
 // cost a long call 6 % of its time.
 fn make(work: Work, kept: &mut [[u8; 32]; 2], engine: &Engine, j: usize) -> Work
     requires { (work.next ≤ j) × (work.blocks ≤ j) × (j < 256) }
-    ensures { (result ≡ with_block work j) × (kept.new ≡ set kept.old (j % 2) (block_of engine.now.mode j)) }
+    ensures { (result ≡ with_block work j) × (kept.new ≡ set kept.old (j % 2) (block_of engine.now.mode.now j)) }
 {
     let mode = engine.mode;
     let value = mode.value;
@@ -84,8 +84,8 @@ fn make(work: Work, kept: &mut [[u8; 32]; 2], engine: &Engine, j: usize) -> Work
 
 // Block j at hand: the last one, or one that is made.
 fn reach(work: Work, kept: &mut [[u8; 32]; 2], engine: &Engine, j: usize) -> Work
-    requires { (work.next ≤ j + 1) × (work.blocks ≤ work.next) × (j < 256) × Held engine.now.mode work.next kept.old }
-    ensures { (result ≡ at_block work j) × Held engine.now.mode (j + 1) kept.new }
+    requires { (work.next ≤ j + 1) × (work.blocks ≤ work.next) × (j < 256) × Held engine.now.mode.now work.next kept.old }
+    ensures { (result ≡ at_block work j) × Held engine.now.mode.now (j + 1) kept.new }
 {
     if work.next == j + 1 {
         return work;
@@ -95,13 +95,13 @@ fn reach(work: Work, kept: &mut [[u8; 32]; 2], engine: &Engine, j: usize) -> Wor
 
 // Buffer bit start + i becomes itself xor bit skip + i of the mode's keystream, for i below n.
 fn xor_run(work: Work, kept: &mut [[u8; 32]; 2], buf: &mut [u8], p: Run, engine: &Engine) -> Work
-    requires { (length buf.old ≤ longest_buffer) × Fits buf.old p × (0 < p.n → work.next ≤ p.skip / 256 + 1) × (work.blocks ≤ work.next) × Held engine.now.mode work.next kept.old }
-    ensures { (buf.new ≡ through_run buf.old (stream_bit (block_of engine.now.mode)) p)
+    requires { (length buf.old ≤ longest_buffer) × Fits buf.old p × (0 < p.n → work.next ≤ p.skip / 256 + 1) × (work.blocks ≤ work.next) × Held engine.now.mode.now work.next kept.old }
+    ensures { (buf.new ≡ through_run buf.old (stream_bit (block_of engine.now.mode.now)) p)
         × (result.schedules ≡ work.schedules)
         × (result.next ≡ block_after work.next p.skip p.n)
         × (result.blocks ≡ work.blocks + (result.next - max work.next (p.skip / 256)))
         × (result.blocks ≤ result.next)
-        × Held engine.now.mode result.next kept.new }
+        × Held engine.now.mode.now result.next kept.new }
 {
     let start = p.start;
     let n = p.n;
@@ -135,7 +135,7 @@ pub fn xor_runs(buf: &mut [u8], p: Run, q: Run, algorithm: u64, ck: [u8; 24], iv
     let mut made = begin(&mut w, key, &table);
     let mixes = ProductTable::new();
     let engine = Engine {
-        mode,
+        mode: &mode,
         w: &w,
         table: &table,
         mixes: &mixes,

@@ -96,8 +96,8 @@ loop-done-preserved c =
       omega (arith, c.min-some.ensures, loop.invariant.0),
       ap length c.xor_block.ensures ∙ length-xored _ _ _ _ _ ∙ loop.invariant.1,
       c.xor_block.ensures
-          ∙ (λ i. xored (loop.invariant.2 i) (bit_at (held_at a.engine.now.mode j _ c.reach-made.ensures.1 i)) (a.p.start + loop.done) ((c.args.p.skip + c.loop-done.done) % 256) p)
-          ∙ xored-stretch (block_of a.engine.now.mode) a.buf.now a.p.start a.p.skip loop.done p h,
+          ∙ (λ i. xored (loop.invariant.2 i) (bit_at (held_at a.engine.now.mode.now j _ c.reach-made.ensures.1 i)) (a.p.start + loop.done) ((c.args.p.skip + c.loop-done.done) % 256) p)
+          ∙ xored-stretch (block_of a.engine.now.mode.now) a.buf.now a.p.start a.p.skip loop.done p h,
       ap (λ (r : Work). r.schedules) e ∙ at-schedules loop.made j ∙ loop.invariant.3,
       next ∙ next-later a.work.next a.p.skip loop.done p h some,
       ap (λ (r : Work). r.blocks) e
@@ -105,7 +105,7 @@ loop-done-preserved c =
           ∙ later a.work.blocks loop.made.blocks loop.made.next c.reach-made.result.next _ _ loop.invariant.5 next
           (made-later a.work.next a.p.skip loop.done p h some loop.made.next loop.invariant.4 early),
       subst (λ (r : Work). r.blocks ≤ r.next) (sym e) (at-few loop.made j loop.invariant.6 reachable),
-      subst (λ (m : ℕ). Held a.engine.now.mode m c.reach-made.new.kept) (sym next) c.reach-made.ensures.1,
+      subst (λ (m : ℕ). Held a.engine.now.mode.now m c.reach-made.new.kept) (sym next) c.reach-made.ensures.1,
     )
 
 pub returns : goal.returns
