@@ -27,29 +27,26 @@ pub fn refusal_of(
 }
 
 // Clauses 5.4, 6.4, 7.4: KSS[256 r + 8 s + t] is bit t of byte s of block r. Bit i of the buffer becomes itself xor KSS[skip + i], for i below n. Answers
-// with the blocks that were made.
+// with the blocks that were made: each that holds one of the bits is made once.
 fn xor_blocks(buf: &mut [u8], n: usize, skip: usize, mode: Mode) -> usize
-    requires { (length buf.old ≤ 8192) × (n ≤ 8 * length buf.old) × (skip + n ≤ 8288) }
+    requires { (length buf.old ≤ 8192) × (n ≤ 8 * length buf.old) × (skip + n ≤ 8288) × (0 < n) }
     ensures { (buf.new ≡ xored buf.old (stream_bit (block_of mode)) 0 skip n) × (result ≡ blocks_used skip n) }
 {
-    let mut made = 0;
-    let mut done = 0;
-    while done < n {
-        let at = skip + done;
-        let from = at % 256;
-        let p = (n - done).min(256 - from);
-        let b = block(mode, at / 256);
-        made += 1;
-        span::xor_block(buf, b, done, from, p);
-        done += p;
+    let end = skip + n;
+    let first = skip / 256;
+    let after = end.div_ceil(256);
+    for r in first..after {
+        let from = skip.max(256 * r);
+        let to = end.min(256 * r + 256);
+        span::xor_block(buf, block(mode, r), from - skip, from % 256, to - from);
     }
-    made
+    after - first
 }
 
 // The bits are cleared first, and xored then: they become the keystream's.
 #[tactic(auto, using(bench::proofs::Cleared::cleared_steps))]
 fn write_blocks(buf: &mut [u8], n: usize, skip: usize, mode: Mode) -> usize
-    requires { (length buf.old ≤ 8192) × (n ≤ 8 * length buf.old) × (skip + n ≤ 8288) }
+    requires { (length buf.old ≤ 8192) × (n ≤ 8 * length buf.old) × (skip + n ≤ 8288) × (0 < n) }
     ensures { (buf.new ≡ written buf.old (stream_bit (block_of mode)) 0 skip n) × (result ≡ blocks_used skip n) }
 {
     span::clear_front(buf, n);

@@ -1,18 +1,12 @@
--- `plain::call::xor_blocks`: `done` bits are xored, and each turn adds a piece of one block. Assumes nothing.
+-- `plain::call::xor_blocks`: the bits before block r are xored. Assumes nothing.
 use mathlib.Core.Path.{◌≡◌}
-use Prim.Native.Nat.{◌<◌, ◌≤◌, ◌-◌, ◌+◌, ◌%◌}
-use lib.ListN.{length}
+use Prim.Native.Nat.{◌-◌, ◌+◌, ◌*◌}
+use Rattle.std.specs.Prelude.{min, max, length}
 use Rattle.span.specs.Span.{stream_bit, xored}
-use Rattle.block_counts.specs.Counts.{blocks_used}
 use Rattle.tea.specs.Keystream.{block_of}
 use Rattle.plain.proofs.call.xor_blocks.Given as goal
 
-abbrev pub invariant-loop-done : goal.invariant-loop-done
-invariant-loop-done l =
-    (l.done ≤ l.n) × (length l.buf ≡ length l.initial.buf) × (l.buf ≡ xored l.initial.buf (stream_bit (block_of l.mode)) 0 l.skip l.done)
-    × (l.made ≤ l.done)
-    × (l.made ≡ blocks_used l.skip l.done)
-    × (0 < l.done → l.done < l.n → (l.skip + l.done) % 256 ≡ 0)
-
-abbrev pub decreases-loop-done : goal.decreases-loop-done
-decreases-loop-done l = l.n - l.done
+abbrev pub invariant-loop-r : goal.invariant-loop-r
+invariant-loop-r l =
+    (length l.buf ≡ length l.initial.buf)
+    × (l.buf ≡ xored l.initial.buf (stream_bit (block_of l.mode)) 0 l.skip (min (l.skip + l.n) (max l.skip (256 * l.r)) - l.skip))
