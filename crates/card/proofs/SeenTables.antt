@@ -24,7 +24,7 @@ use Rattle.slot_calls.proofs.Alike.{Seen, seen}
 use Rattle.slot_calls.proofs.AsSeen.{Same, keyless-same, shown-seen}
 use Rattle.slot_calls.proofs.Puts.{load-put, move-put, clear-put}
 use Rattle.slot_calls.proofs.Passed.{MovePassedOf, load-passed-of, move-passed-of, clear-passed-of}
-use Rattle.plan.specs.declared.Plan.{Plan}
+use Rattle.plan.specs.Plan.{Plan}
 use Rattle.traffic.specs.Traffic.{traffic_refusal_of, traffic_after}
 use Rattle.traffic.proofs.Passed.{use-passed-of, traffic-passed-of}
 use Rattle.traffic.proofs.SeenTraffic.{traffic-seen}
@@ -99,7 +99,7 @@ module _ (ys : List Slot) where
       abbrev from-to : ℕ → List Slot
       from-to i = pick (ltb i (length ys)) (set ys i put.slot) ys
 
-      put_refused : eqb put.refusal done ≡ false → put_in ys number put ≡ ys
+      pub put_refused : eqb put.refusal done ≡ false → put_in ys number put ≡ ys
       put_refused e = ap (λ (b : Bool). from-to (pick b (place_of (length ys) number) (length ys))) e ∙ past_end (set ys (length ys) put.slot) ys
 
       put-done : eqb put.refusal done ≡ true → is_table ys ≡ true → is_slot_number number ≡ true → put_in ys number put ≡ with_slot ys number put.slot

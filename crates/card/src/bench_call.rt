@@ -16,7 +16,5 @@ pub extern "C" fn card_bench(
     ensures { ciphered_as result buf.new blocks.new
         ≡ bench_answer algorithm key.now iv.now buf.old n }
 {
-    let report = bench::bench(algorithm, key, iv, buf, n);
-    *blocks = report.blocks;
-    report.refusal
+    faces::report(bench::bench(algorithm, key, iv, buf, n), blocks)
 }

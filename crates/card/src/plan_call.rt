@@ -16,7 +16,14 @@ pub extern "C" fn card_plan(
 ) -> u8
     ensures { planned_as result pieces.new ≡ planned_out (plan_of kind state flag length address sdu) }
 {
-    let p = plan::plan_pdu(kind, state, flag, length, address, sdu);
-    *pieces = faces::piece_numbers(p);
-    p.refusal
+    match plan::plan_pdu(kind, state, flag, length, address, sdu) {
+        Ok(planned) => {
+            *pieces = faces::piece_numbers(planned);
+            0
+        }
+        Err(refusal) => {
+            *pieces = [0usize; 6];
+            refusal.number()
+        }
+    }
 }

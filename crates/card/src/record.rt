@@ -5,6 +5,7 @@ ghost use Rattle.faces.specs.Faces.{asking, read_as, read_out, written_as, writt
 
 use faces::{asked_for, shown_numbers};
 use record_reader::read_record;
+use refusals::Refusal;
 
 // Reads one record from the front of a text: leaves its number and fields in `shown`, its key in `key`, and how many bytes it took in
 // `used`. On refusal 15 `line` and `column` say where the first byte stands at which no good record goes on, and zeros are left elsewhere.
@@ -28,7 +29,7 @@ pub extern "C" fn card_record_read(
             *used = record.used;
             *line = 0;
             *column = 0;
-            refusals::DONE
+            0
         }
         Err(bad) => {
             *shown = [0u64; 8];
@@ -36,7 +37,7 @@ pub extern "C" fn card_record_read(
             *used = 0;
             *line = bad.line;
             *column = bad.column;
-            refusals::RECORD_TEXT
+            Refusal::RecordTextBad.number()
         }
     }
 }
@@ -60,7 +61,14 @@ pub extern "C" fn card_record_write(
         ≡ written_out number (asking version algorithm usage side place mcc mnc) key.now buf.old }
 {
     let asked = asked_for(version, algorithm, usage, side, place, mcc, mnc);
-    let w = record_writer::write_record(number, asked, *key, buf);
-    *length = w.length;
-    w.refusal
+    match record_writer::write_record(number, asked, *key, buf) {
+        Ok(written) => {
+            *length = written;
+            0
+        }
+        Err(refusal) => {
+            *length = 0;
+            refusal.number()
+        }
+    }
 }

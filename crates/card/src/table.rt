@@ -1,11 +1,13 @@
 // The slot calls on a table that the caller lends: 32 slot records behind a pointer. Each is judged by what its slots show, and reads a key only where it is
 // not refused and needs one: so a refused call has no key to leave behind.
 ghost use Rattle.std.specs.Prelude.{◌≡◌};
+ghost use Rattle.refusals.specs.Refused.{number_of};
 ghost use Rattle.faces.specs.Faces.{asking, pdu_as, changed_as, shown_as};
 ghost use Rattle.ciphering.specs.Span.{ciphered_as};
 ghost use Rattle.card.specs.Table.{loaded_in, moved_in, cleared_in, shown_in, traffic_answer_in, whole_answer_in};
 
 use faces::{load_from, pdu_from, plan_from, show_from, traffic_from};
+use refusals::{Refusal, number_of};
 use slot_calls::key_slot;
 use slot_list::{fields_in, is_no_table, put_slot, slot_in};
 use slots::Slot;
@@ -41,15 +43,14 @@ pub extern "C" fn card_load(
         mnc,
         key,
     );
-    put_slot(t, number, put)
+    number_of(put_slot(t, number, put))
 }
 
-// Carries a filled slot to an empty one, with a use that lies within the present one.
-#[unsafe(no_mangle)]
-pub extern "C" fn card_move(t: &mut [Slot], from: u64, to: u64, asked: u64) -> u8
-    ensures { changed_as result t.new ≡ moved_in t.old from to asked }
+// Carries a slot where the move is not refused. The key is read where it is carried.
+fn carry(t: &mut [Slot], from: u64, to: u64, asked: u64) -> Result<(), Refusal>
+    ensures { changed_as (number_of result) t.new ≡ moved_in t.old from to asked }
 {
-    let refusal = slot_calls::move_refusal(
+    let judged = slot_calls::move_refusal(
         is_no_table(t),
         fields_in(t, from),
         fields_in(t, to),
@@ -57,9 +58,17 @@ pub extern "C" fn card_move(t: &mut [Slot], from: u64, to: u64, asked: u64) -> u
         to,
         asked,
     );
-    let put = slot_puts::move_of(refusal, slot_in(t, key_slot(refusal, from)), asked);
-    put_slot(t, to, put);
+    let put = slot_puts::move_of(judged, slot_in(t, key_slot(judged, from)), asked);
+    put_slot(t, to, put)?;
     put_slot(t, from, slot_puts::emptied(put))
+}
+
+// Carries a filled slot to an empty one, with a use that lies within the present one.
+#[unsafe(no_mangle)]
+pub extern "C" fn card_move(t: &mut [Slot], from: u64, to: u64, asked: u64) -> u8
+    ensures { changed_as result t.new ≡ moved_in t.old from to asked }
+{
+    number_of(carry(t, from, to, asked))
 }
 
 // Empties a filled slot.
@@ -68,7 +77,7 @@ pub extern "C" fn card_clear(t: &mut [Slot], number: u64) -> u8
     ensures { changed_as result t.new ≡ cleared_in t.old number }
 {
     let put = slot_puts::clear_of(is_no_table(t), fields_in(t, number), number);
-    put_slot(t, number, put)
+    number_of(put_slot(t, number, put))
 }
 
 // Gives a filled slot's number and fields, without the key. A refusal gives 0 for each of them.
@@ -118,7 +127,7 @@ pub extern "C" fn card_traffic<'a>(
     ensures { ciphered_as result buf.new blocks.new
         ≡ traffic_answer_in t.now direction number iv.now buf.old start n skip }
 {
-    let refusal = traffic_refusal(
+    let judged = traffic_refusal(
         is_no_table(t),
         fields_in(t, number),
         direction,
@@ -129,8 +138,8 @@ pub extern "C" fn card_traffic<'a>(
         n,
         skip,
     );
-    let slot = slot_in(t, key_slot(refusal, number));
-    traffic_from(refusal, slot, iv, buf, start, n, skip, blocks)
+    let slot = slot_in(t, key_slot(judged, number));
+    traffic_from(judged, slot, iv, buf, start, n, skip, blocks)
 }
 
 // A whole PDU, from bit 0 of the buffer on: every piece of its plan is ciphered, or no bit changes. Its flag is read from its bit 12, counted from 1.
@@ -152,7 +161,7 @@ pub extern "C" fn card_pdu<'a>(
     ensures { ciphered_as result buf.new blocks.new
         ≡ whole_answer_in t.now direction number iv.now buf.old (pdu_as kind state length address sdu) }
 {
-    let p = plan_from(
+    let judged = plan_from(
         is_no_table(t),
         fields_in(t, number),
         direction,
@@ -165,6 +174,6 @@ pub extern "C" fn card_pdu<'a>(
         address,
         sdu,
     );
-    let slot = slot_in(t, whole::key_slot(p, number));
-    pdu_from(p, slot, iv, buf, blocks)
+    let slot = slot_in(t, whole::key_slot(judged, number));
+    pdu_from(judged, slot, iv, buf, blocks)
 }

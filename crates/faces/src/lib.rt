@@ -2,21 +2,40 @@
 #![tactic(auto)]
 
 ghost use Rattle.std.specs.Prelude.{◌≡◌};
+ghost use Rattle.refusals.specs.Refused.{number_of};
 ghost use Rattle.slots.specs.Slots.{keyless};
+ghost use Rattle.slot_calls.specs.Answers.{put_of};
 ghost use Rattle.slot_calls.specs.Calls.{shown_of};
 ghost use Rattle.slot_calls.specs.Seen.{load_put};
-ghost use Rattle.ciphering.specs.Span.{ciphered_as};
+ghost use Rattle.ciphering.specs.Span.{ciphered_as, blocks_of};
+ghost use Rattle.plan.specs.Plan.{with_pieces, plan_as};
 ghost use Rattle.traffic.specs.Traffic.{TrafficMay, traffic_after};
 ghost use Rattle.whole.specs.Whole.{judged_plan, WholeMay, whole_after};
 ghost use Rattle.faces.specs.Faces.{asking, pdu_as, shown_as, shown_numbers, piece_numbers};
 
 use fields::{Asked, Fields};
-use plan::Plan;
-use slot_calls::Put;
+use keystream::Tally;
+use plan::Pieces;
+use refusals::Refusal;
+use slot_calls::Found;
 use slots::Slot;
 use traffic_work::traffic_of;
 use whole::{Pdu, judged_plan};
 use whole_work::whole_of;
+
+// What a refused read shows.
+const NOTHING: Found = Found {
+    number: 0,
+    fields: Fields {
+        version: 0,
+        algorithm: 0,
+        usage: 0,
+        side: 0,
+        place: 0,
+        mcc: 0,
+        mnc: 0,
+    },
+};
 
 // The fields that a caller gives one by one.
 pub fn asked_for(
@@ -58,12 +77,28 @@ pub fn shown_numbers(number: u64, f: Fields) -> [u64; 8]
 }
 
 // A plan's pieces, as its caller gets them.
-pub fn piece_numbers(p: Plan) -> [usize; 6]
-    ensures { result ≡ piece_numbers p }
+pub fn piece_numbers(p: Pieces) -> [usize; 6]
+    ensures { result ≡ piece_numbers (with_pieces p.first p.second) }
 {
     let a = p.first;
     let b = p.second;
     [a.start, a.length, a.skip, b.start, b.length, b.skip]
+}
+
+// What a call on a buffer made, as its caller gets it: 0 or the refusal's number, and the blocks, 0 where the call is refused.
+pub fn report(made: Result<Tally, Refusal>, blocks: &mut usize) -> u8
+    ensures { (result ≡ number_of made) × (blocks.new ≡ blocks_of made) }
+{
+    match made {
+        Ok(tally) => {
+            *blocks = tally.blocks;
+            0
+        }
+        Err(refusal) => {
+            *blocks = 0;
+            refusal.number()
+        }
+    }
 }
 
 // The calls on one slot, judged and done.
@@ -80,12 +115,11 @@ pub fn load_from(
     mcc: u64,
     mnc: u64,
     key: &[u8; 24],
-) -> Put
-    ensures { result ≡ load_put bad (keyless f) number (asking version algorithm usage side place mcc mnc) key.now }
+) -> Result<Slot, Refusal>
+    ensures { put_of result ≡ load_put bad (keyless f) number (asking version algorithm usage side place mcc mnc) key.now }
 {
     let asked = asked_for(version, algorithm, usage, side, place, mcc, mnc);
-    let k = *key;
-    slot_puts::load_of(bad, f, number, asked, k)
+    slot_puts::load_of(bad, f, number, asked, *key)
 }
 
 pub fn show_from<'a>(
@@ -103,9 +137,12 @@ pub fn show_from<'a>(
 ) -> u8
     ensures { shown_as result found.new version.new algorithm.new usage.new side.new place.new mcc.new mnc.new ≡ shown_of bad (keyless f) number }
 {
-    let s = slot_puts::read_of(bad, f, number);
-    let f = s.fields;
-    *found = s.number;
+    let (answer, shown) = match slot_puts::read_of(bad, f, number) {
+        Ok(shown) => (0, shown),
+        Err(refusal) => (refusal.number(), NOTHING),
+    };
+    let f = shown.fields;
+    *found = shown.number;
     *version = f.version;
     *algorithm = f.algorithm;
     *usage = f.usage;
@@ -113,11 +150,11 @@ pub fn show_from<'a>(
     *place = f.place;
     *mcc = f.mcc;
     *mnc = f.mnc;
-    s.refusal
+    answer
 }
 
 pub fn traffic_from<'a>(
-    refusal: u8,
+    judged: Result<(), Refusal>,
     slot: Slot,
     iv: &'a [u8],
     buf: &'a mut [u8],
@@ -126,13 +163,11 @@ pub fn traffic_from<'a>(
     skip: usize,
     blocks: &'a mut usize,
 ) -> u8
-    requires { TrafficMay refusal iv.now buf.old start n skip }
+    requires { TrafficMay (number_of judged) iv.now buf.old start n skip }
     ensures { ciphered_as result buf.new blocks.new
-        ≡ traffic_after refusal slot iv.now buf.old start n skip }
+        ≡ traffic_after (number_of judged) slot iv.now buf.old start n skip }
 {
-    let report = traffic_of(refusal, slot, iv, buf, start, n, skip);
-    *blocks = report.blocks;
-    report.refusal
+    report(traffic_of(judged, slot, iv, buf, start, n, skip), blocks)
 }
 
 pub fn plan_from(
@@ -147,8 +182,8 @@ pub fn plan_from(
     length: usize,
     address: usize,
     sdu: usize,
-) -> Plan
-    ensures { result ≡ judged_plan bad (keyless f) direction number iv.now buf.now (pdu_as kind state length address sdu) }
+) -> Result<Pieces, Refusal>
+    ensures { plan_as result ≡ judged_plan bad (keyless f) direction number iv.now buf.now (pdu_as kind state length address sdu) }
 {
     let pdu = Pdu {
         kind,
@@ -161,16 +196,14 @@ pub fn plan_from(
 }
 
 pub fn pdu_from<'a>(
-    p: Plan,
+    judged: Result<Pieces, Refusal>,
     slot: Slot,
     iv: &'a [u8],
     buf: &'a mut [u8],
     blocks: &'a mut usize,
 ) -> u8
-    requires { WholeMay p iv.now buf.old }
-    ensures { ciphered_as result buf.new blocks.new ≡ whole_after p slot iv.now buf.old }
+    requires { WholeMay (plan_as judged) iv.now buf.old }
+    ensures { ciphered_as result buf.new blocks.new ≡ whole_after (plan_as judged) slot iv.now buf.old }
 {
-    let report = whole_of(p, slot, iv, buf);
-    *blocks = report.blocks;
-    report.refusal
+    report(whole_of(judged, slot, iv, buf), blocks)
 }

@@ -1,6 +1,7 @@
 -- `card::table::card_clear`: what the call is judged by is what the list shows. Assumes nothing.
 use mathlib.Core.Path.{◌∙◌}
 use Rattle.slots.specs.Slots.{keyless}
+use Rattle.slot_calls.specs.Answers.{put_of}
 use Rattle.slot_calls.specs.Seen.{clear_put}
 use Rattle.card.specs.Table.{cleared_in}
 use Rattle.card.proofs.Answers.{changed-is}
@@ -11,6 +12,6 @@ pub returns : goal.returns
 returns c =
     let at = c.args in
     changed-is (cleared_in at.t.now at.number)
-    (cleared-in at.t.now at.number c.clear_of-put.result
+    (cleared-in at.t.now at.number (put_of c.clear_of-put.result)
     (c.clear_of-put.ensures ∙ (λ i. clear_put (c.is_no_table.ensures i) (keyless (c.fields_in.ensures i)) at.number))
-    c.put_slot.result c.put_slot.new.t c.put_slot.ensures)
+    c.number_of.result c.put_slot.new.t (c.number_of.ensures ∙ c.put_slot.ensures.answer, c.put_slot.ensures.after))
