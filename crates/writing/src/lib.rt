@@ -81,6 +81,7 @@ pub fn put_line<'a, V: Shown>(buffer: &'a mut [u8], at: usize, name: &'a [u8], v
     put_bytes(buffer, end, b"\n")
 }
 
+#[tactic(auto, unfolding(crate::specs::Text::hex_digit))]
 fn hex_digit(d: u8) -> u8
     requires { d < 16 }
     ensures { result ≡ hex_digit d }
@@ -89,6 +90,7 @@ fn hex_digit(d: u8) -> u8
 }
 
 // A byte by two hex digits.
+#[tactic(auto, unfolding(crate::specs::Text::hex_text))]
 fn put_byte(buffer: &mut [u8], at: usize, b: u8) -> usize
     requires { Room buffer.old at (hex_text (b ∷ [])) }
     ensures { Put buffer.old at (hex_text (b ∷ [])) buffer.new result }
