@@ -12,6 +12,7 @@ pub fn index_of(s: &[u8], b: u8) -> usize
 }
 
 // How many bytes the first piece of a text takes, with the byte b that ends it. The last piece may lack it.
+#[tactic(auto, unfolding(crate::specs::Line::piece_length))]
 pub fn piece_length(s: &[u8], b: u8) -> usize
     ensures { result ≡ piece_length b s.now }
 {
@@ -31,6 +32,7 @@ pub fn after_spaces(line: &[u8], k: usize) -> &[u8]
 }
 
 // Part k of a line, counted from 0.
+#[tactic(auto, unfolding(crate::specs::Line::part))]
 pub fn part(line: &[u8], k: usize) -> &[u8]
     ensures { result.now ≡ part k line.now }
 {
