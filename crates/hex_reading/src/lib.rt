@@ -8,6 +8,7 @@ ghost use Rattle.reading.specs.Reading.{onward, answer, reading_of};
 use reading::{Found, Reading, WrongAt};
 
 // The value of a lower-case hex digit.
+#[tactic(auto, unfolding(forms::specs::Hexes::hex_or, forms::specs::Hexes::is_hex, forms::specs::Hexes::hex_value))]
 pub fn hex_value(c: u8) -> Option<u8>
     ensures value { unwrap_or result 16 ≡ hex_or c }
     ensures small { IfSome result (λ v. v < 16) }
