@@ -31,14 +31,6 @@ leb-same a b c d f g = ⊎_elim (λ h. lt-leb a b h ∙ sym (lt-leb c d (g h))) 
 -- after what was read before
 
 module _ {A : Type 0} (before : Reading) (f : Form A) (s : List ℕ) where
-  pub on-wrong : not before.good ≡ true → onward before f s ≡ wrong before.place
-  unfolding onward
-  on-wrong h = pick-taken before.good _ _ h
-
-  pub on-good : not before.good ≡ false → onward before f s ≡ read_at f s before.place
-  unfolding onward
-  on-good h = pick-left before.good _ _ h
-
   pub on_both : {B : Type 0} (g : A → Form B) → onward before (f >>= g) s ≡ onto (onward before f s) (λ v q. read_at (g v) s q)
   unfolding onward
   on_both {B} g = go before.good

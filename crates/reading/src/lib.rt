@@ -37,6 +37,7 @@ pub fn read_literal<'a>(s: &'a [u8], before: Reading, bytes: &'a [u8]) -> Readin
 }
 
 // May a number from `low` to `high` begin with the byte `b`?
+#[tactic(auto, unfolding(forms::specs::Decimals::may_begin))]
 pub fn may_begin(low: u64, high: u64, b: u8) -> bool
     ensures { result ≡ may_begin low high b }
 {
@@ -48,6 +49,7 @@ pub fn may_begin(low: u64, high: u64, b: u8) -> bool
 }
 
 // May the byte `b` follow digits of the value `n`? The number that they make is not made here: it may be too large for a machine.
+#[tactic(auto, unfolding(forms::specs::Decimals::may_follow))]
 pub fn may_follow(high: u64, n: u64, b: u8) -> bool
     ensures { result ≡ may_follow high n b }
 {
