@@ -12,6 +12,7 @@ fn all_hex(s: &[u8]) -> bool
 }
 
 // Is the text one byte or more?
+#[tactic(auto, unfolding(crate::specs::Parts::are_bytes))]
 pub fn are_bytes(s: &[u8]) -> bool
     ensures { result ≡ are_bytes s.now }
 {
