@@ -24,6 +24,7 @@ struct KeyFound {
 }
 
 // SEND, RECV or BOTH, ended by LF.
+#[tactic(auto, unfolding(crate::specs::Lines::use_form))]
 fn read_use(s: &[u8], before: Reading) -> Reading
     ensures { reading_of result ≡ answer (onward (reading_of before) use_form s.now) }
 {
@@ -31,6 +32,7 @@ fn read_use(s: &[u8], before: Reading) -> Reading
 }
 
 // TEA5, TEA6 or TEA7, ended by LF.
+#[tactic(auto, unfolding(crate::specs::Lines::algorithm_form))]
 fn read_algorithm(s: &[u8], before: Reading) -> Reading
     ensures { reading_of result ≡ answer (onward (reading_of before) algorithm_form s.now) }
 {
@@ -90,6 +92,7 @@ fn starts_form(text: &[u8]) -> bool
 }
 
 // The line that says form 2, or nothing.
+#[tactic(auto, unfolding(crate::specs::Record::opened))]
 fn read_form(text: &[u8], two: bool) -> Reading
     ensures { reading_of result ≡ opened two text.now }
 {
@@ -102,6 +105,7 @@ fn read_form(text: &[u8], two: bool) -> Reading
 }
 
 // The line of a network code, or nothing and 0.
+#[tactic(auto, unfolding(forms::specs::Form::literal))]
 fn read_code<'a>(text: &'a [u8], before: Reading, two: bool, name: &'a [u8], high: u64) -> Reading
     ensures { reading_of result ≡ answer (onward (reading_of before) (pick two (named name.now (decimal 0 high)) (done 0)) text.now) }
 {
