@@ -15,6 +15,7 @@ use refusals::Refusal;
 use writing::{digit_count, put_bytes, put_hex, put_line};
 
 // The line of a key.
+#[tactic(auto, using(crate::proofs::Puts::put_steps))]
 fn put_key(buffer: &mut [u8], at: usize, key: [u8; 24]) -> usize
     requires { Room buffer.old at (line_text "key=" (hex_text key)) }
     ensures { Put buffer.old at (line_text "key=" (hex_text key)) buffer.new result }
@@ -47,6 +48,7 @@ fn write_refusal(number: u64, asked: Asked, room: usize) -> Result<(), Refusal>
 }
 
 // The lines from the side on.
+#[tactic(auto, using(crate::proofs::Puts::put_steps))]
 fn put_last(buffer: &mut [u8], at: usize, asked: Asked, key: [u8; 24]) -> usize
     requires { Room buffer.old at (last_lines true (stored_of asked) key) }
     ensures { Put buffer.old at (last_lines true (stored_of asked) key) buffer.new result }
@@ -59,6 +61,7 @@ fn put_last(buffer: &mut [u8], at: usize, asked: Asked, key: [u8; 24]) -> usize
 }
 
 // The ten lines, for a buffer that has room for them.
+#[tactic(auto, using(crate::proofs::Puts::put_steps), unfolding(record_text::specs::Text::form_text, record_text::specs::Text::lines_text))]
 fn put_record(buffer: &mut [u8], number: u64, asked: Asked, key: [u8; 24]) -> usize
     requires { Room buffer.old 0 (record_text number (stored_of asked) key) }
     ensures { Put buffer.old 0 (record_text number (stored_of asked) key) buffer.new result }
