@@ -8,6 +8,7 @@ ghost use Rattle.writing.specs.Writing.{Put};
 ghost use Rattle.conversion_sheet.specs.Report.{conversion_report, report_room};
 ghost use Rattle.conversion_sheet.specs.Answers.{report_text};
 
+use arrayvec::ArrayVec;
 use conversion::{Refused, check};
 use conversion_pairs::pair_count;
 use input::{read_pairs, split_text};
@@ -35,7 +36,7 @@ fn converted(input: &[u8]) -> Result<usize, Refused>
 }
 
 // The whole report, at the front of the buffer: the number of pairs, or the refusal and its pair. Answers with its length.
-pub fn report_on(input: &[u8], buffer: &mut [u8; ROOM]) -> usize
+fn put_report(input: &[u8], buffer: &mut [u8; ROOM]) -> usize
     ensures { (result ≤ report_room) × Put buffer.old 0 (conversion_report input.now) buffer.new result }
 {
     match converted(input) {
@@ -47,4 +48,15 @@ pub fn report_on(input: &[u8], buffer: &mut [u8; ROOM]) -> usize
             put_line(buffer, end, b" pair=", place)
         }
     }
+}
+
+// The whole report.
+pub fn report_on(input: &[u8]) -> ArrayVec<u8, ROOM>
+    ensures { result.items ≡ conversion_report input.now }
+{
+    let mut text = [0u8; ROOM];
+    let length = put_report(input, &mut text);
+    let mut report = ArrayVec::from(text);
+    report.truncate(length);
+    report
 }

@@ -8,7 +8,6 @@ use std::io::Write;
 fn main(rt: HostRuntime) -> io::Result<()> {
     let mut input = [0u8; 16385];
     let n = filling::read_full(&mut rt.stdin(), &mut input)?;
-    let mut report = [0u8; conversion_sheet::ROOM];
-    let length = conversion_sheet::report_on(&input[..n], &mut report);
-    rt.stdout().write_all(&report[..length])
+    let report = conversion_sheet::report_on(&input[..n]);
+    rt.stdout().write_all(&report)
 }
