@@ -10,6 +10,3 @@ pub overflow_cast-moved : goal.overflow_cast-moved
 overflow_cast-moved c =
     let u = moved_use c.args.slot.fields.usage c.args.asked in
     omega (arith, c.moved_use.ensures, between-high 1 u 3 (and_left (is_use u) _ c.requires))
-
-pub returns : goal.returns
-returns c = rw c.moved_use.ensures
