@@ -1,4 +1,5 @@
-// What a use allows, and what a move may make of it (document 01, "Slots and rights").
+// What a use allows, and what a move may make of it (document 01, "Slots and rights"). A use and a direction stay numbers, as the definitions and C
+// have them: an enum would be turned back to its number in each contract.
 #![tactic(auto)]
 
 ghost use Rattle.std.specs.Prelude.{◌≡◌};

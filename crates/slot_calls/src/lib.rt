@@ -12,7 +12,7 @@ ghost use Rattle.slot_calls.specs.Seen.{key_slot};
 use fields::{Asked, Fields};
 use refusals::Refusal;
 
-// The number of no slot.
+// The number of no slot. It is a number and no `None`, as `key_slot` of specs/ has it.
 pub const NO_SLOT: u64 = 0;
 
 // What a read finds.
