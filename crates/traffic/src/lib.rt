@@ -40,7 +40,7 @@ fn sends_out_of_service(direction: u64, f: Fields) -> bool
     direction == SEND && fields::is_out_of_service(f.algorithm as u64)
 }
 
-// Refusals 16, 10, 7, 8, 12, 21, 3, 13, in this order.
+// Refusals 16, 10, 7, 8, 12, 21, 3, 13, in this order. What decides comes one by one here and above, as C gives it and the definitions take it.
 #[tactic(auto, using(refusals::proofs::Judged::judged_steps), unfolding(crate::specs::Traffic::use_refusal_of))]
 pub fn use_refusal(
     bad: bool,
