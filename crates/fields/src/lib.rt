@@ -78,7 +78,7 @@ pub fn rights_refusal(a: Asked) -> Result<(), Refusal>
     Refusal::NetworkBad.when(!both_at_most(a.mcc, 1023, a.mnc, 16383))
 }
 
-// The fields in a slot's own widths.
+// The fields in a slot's own widths. No `TryFrom`: a number out of its range has a refusal of its own, which was given before.
 pub fn stored(a: Asked) -> Fields
     requires { all_in_range a ≡ true }
     ensures { result ≡ stored_of a }

@@ -29,6 +29,7 @@ pub fn gather(text: &[u8]) -> Option<[Slot; 32]>
     ensures { gathered_of result ≡ gathered text.now }
 {
     let mut table = empty_table();
+    // No `for`: how far a turn goes is what the record took.
     let mut rest = text;
     while !rest.is_empty() {
         let read = match read_record(rest) {

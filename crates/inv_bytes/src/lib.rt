@@ -49,7 +49,7 @@ impl InvSBox {
     }
 }
 
-// b where k is odd, else 0.
+// b where k is odd, else 0. (`term` of plain_field is the same choice; that crate is read on its own.)
 fn chosen(k: u8, b: u8) -> u8
     ensures { result ≡ pick (eqb (k % 2) 1) b 0 }
 {

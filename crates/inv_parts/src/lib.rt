@@ -9,7 +9,7 @@ ghost use Rattle.inv_parts.specs.Schedule.{inv_mixed_word, mixed_back};
 use inv_bytes::inv_mixed_byte;
 use words::{byte0, byte1, byte2, byte3, join_bytes};
 
-// Rows 1, 2, 3 turn right by 1, 3, 4.
+// Rows 1, 2, 3 turn right by 1, 3, 4. A function of both directions would be no plainer: its contract would need a definition of both.
 pub fn inv_shift_row(s: [[u8; 8]; 4]) -> [[u8; 8]; 4]
     ensures { result ≡ inv_shift_row s }
 {

@@ -4,6 +4,7 @@ ghost use Rattle.inv_parts.specs.Steps.{inv_byte_sub, inv_mix_column};
 
 use inv_bytes::{InvSBox, inv_mixed_byte};
 
+// No one function with `byte_sub`: a trait of the two S-boxes would stand for one call of each.
 pub fn inv_byte_sub(s: [[u8; 8]; 4], table: &InvSBox) -> [[u8; 8]; 4]
     ensures { result ≡ inv_byte_sub s }
 {

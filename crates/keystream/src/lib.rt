@@ -107,6 +107,7 @@ fn xor_run(work: Work, kept: &mut [[u8; 32]; 2], buf: &mut [u8], p: Run, engine:
     let n = p.n;
     let skip = p.skip;
     let mut made = work;
+    // No `for`: how far a turn goes is what its block still has.
     let mut done = 0;
     while done < n {
         let at = skip + done;

@@ -26,6 +26,7 @@ pub fn load_all(sheet: &[u8]) -> Result<[Slot; 32], Refused>
 {
     let mut table = empty_table();
     let mut position = 1;
+    // No `for`: how far a turn goes is what the record took.
     let mut rest = sheet;
     while !rest.is_empty() {
         let read = match read_record(rest) {

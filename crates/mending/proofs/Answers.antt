@@ -14,7 +14,7 @@ use Rattle.laws.proofs.Cases.{neither}
 use Rattle.refusals.specs.Numbers.{done, record_too_long}
 use Rattle.refusals.specs.Refused.{number}
 use Rattle.refusals.specs.declared.Refusal.{Refusal}
-use Rattle.refusals.specs.declared.Refusal.TheVariants.{AlgorithmUnknown, BenchKeyNot24, IvNot10, LengthBad, BufferLarge, SpanOutside, SlotNumberBad, SlotEmpty, TargetFilled, CodeUnknown, SideOrPlaceBad, DirectionNotInUse, IvSideWrong, UseNotWithin, RecordTextBad, TableBad, RecordTooLong, PduCodeUnknown, PduPartsDontFit, NetworkBad, AlgorithmOutOfService, ConversionTextBad, PairListBad, PairDiffers, SheetNamesBad, SheetValueBad, LogLineBad}
+use Rattle.refusals.proofs.Judged.{number-above_0}
 use Rattle.writing.specs.Text.{digits, line_text}
 use Rattle.writing.specs.Writing.{Room, Put, at_front}
 use Rattle.writing.proofs.Puts.{put_then, put-length}
@@ -113,36 +113,7 @@ answer-most text room = go (sheet_bad text) (is_record (text_mended (lines_of te
 
 -- a refusal's number is not that of done
 pub not-done : (refusal : Refusal) → number refusal ≡ done → ⊥
-not-done refusal e = let some : 1 ≤ number refusal = go refusal in omega arith
-  where
-    go : (refusal : Refusal) → 1 ≤ number refusal
-    go AlgorithmUnknown = omega arith
-    go BenchKeyNot24 = omega arith
-    go IvNot10 = omega arith
-    go LengthBad = omega arith
-    go BufferLarge = omega arith
-    go SpanOutside = omega arith
-    go SlotNumberBad = omega arith
-    go SlotEmpty = omega arith
-    go TargetFilled = omega arith
-    go CodeUnknown = omega arith
-    go SideOrPlaceBad = omega arith
-    go DirectionNotInUse = omega arith
-    go IvSideWrong = omega arith
-    go UseNotWithin = omega arith
-    go RecordTextBad = omega arith
-    go TableBad = omega arith
-    go RecordTooLong = omega arith
-    go PduCodeUnknown = omega arith
-    go PduPartsDontFit = omega arith
-    go NetworkBad = omega arith
-    go AlgorithmOutOfService = omega arith
-    go ConversionTextBad = omega arith
-    go PairListBad = omega arith
-    go PairDiffers = omega arith
-    go SheetNamesBad = omega arith
-    go SheetValueBad = omega arith
-    go LogLineBad = omega arith
+not-done refusal e = omega (arith, number-above_0 refusal)
 
 -- what is printed, by what mending left
 module _ (text b : List ℕ) {refusal size : ℕ} {b' : List ℕ} (room : print_room ≤ length b) (e : mend_as refusal size b' ≡ mend_out text b) where

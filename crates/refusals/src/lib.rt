@@ -4,7 +4,7 @@
 ghost use Rattle.std.specs.Prelude.{◌≡◌};
 ghost use Rattle.refusals.specs.Refused.{number, number_of, refused_when};
 
-// The number of a call that is not refused.
+// The number of a call that is not refused, as C gets it.
 pub const DONE: u8 = 0;
 
 // Each has the name of its number in specs/Numbers.antt.

@@ -15,6 +15,7 @@ pub struct Share {
 fn gcd(a: u64, b: u64) -> u64
     ensures { result ≡ gcd a b }
 {
+    // No `for`: nothing is counted.
     let mut x = a;
     let mut y = b;
     while y != 0 {

@@ -15,6 +15,7 @@ pub struct Slot {
     pub key: [u8; 24],
 }
 
+// No `Default`: what an empty slot shows is a rule, and `no_fields` of specs/ names it.
 pub fn no_fields() -> Fields
     ensures { result ≡ no_fields }
 {

@@ -13,7 +13,7 @@ use plan::Pieces;
 use refusals::Refusal;
 use traffic::{bit_at, use_refusal};
 
-// Kind 2, whose PDUs have a fragmentation flag.
+// Kind 2, whose PDUs have a fragmentation flag. It stays a number, as `flag_of` of specs/ has it and C gives it.
 const SYNC_ON_SCH_H: u64 = 2;
 
 // What a plan is made of, but for the flag: that stands in the PDU. Length, address and sdu are bits.
