@@ -1,5 +1,5 @@
 // Words of 32 bits and their four bytes, the first highest. They are by arithmetic, and not by std's `from_be_bytes` and `to_be_bytes`: through an
-// array of four bytes the compiler makes another loop of a round, and a block takes 2.4 times as long.
+// array of four bytes the compiler makes another loop of a round, and a block takes three times as long.
 #![tactic(auto)]
 
 ghost use Rattle.std.specs.Prelude.{◌≡◌};
