@@ -6,7 +6,7 @@ use Prim.Native.Nat.{ℕ, ◌+◌}
 use lib.ListN.{length, length-set}
 use Rattle.laws.specs.Choice.{pick}
 use Rattle.logged_calls.specs.declared.Call.{Call}
-use Rattle.call_log.specs.Month.{Month}
+use Rattle.call_log.specs.declared.Month.{Month}
 use Rattle.logged_calls.specs.Log.{is_accepted}
 use Rattle.logged_calls.specs.Figures.{row_of, total_row, calls_at, bits_at, blocks_at, lines_at, count_at, plus, into_row, added_accepted, added_refused, added}
 use Rattle.call_log.specs.Fed.{Fed, fed_to, line_start, stopped, call_of, taken, ended, ends_line, in_line, fed_byte, fed}

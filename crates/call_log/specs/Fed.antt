@@ -4,7 +4,7 @@ use Rattle.laws.specs.Choice.{pick}
 use Rattle.forms.specs.Decimals.{may_begin, may_follow}
 use Rattle.writing.specs.Text.{ascii, lf}
 use Rattle.logged_calls.specs.declared.Call.{Call}
-use Rattle.call_log.specs.Month.{Month}
+use Rattle.call_log.specs.declared.Month.{Month}
 use Rattle.logged_calls.specs.Log.{is_sound, largest_number, largest_code, most_lines}
 use Rattle.logged_calls.specs.Figures.{added}
 

@@ -1,3 +1,1 @@
-pub mod Month
 pub mod Fed
-pub mod Read

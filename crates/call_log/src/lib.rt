@@ -3,90 +3,88 @@
 
 mod part;
 
-ghost use Rattle.std.specs.Prelude.{◌≡◌, IfSome, is_some, not, ◌&&◌, eqb};
-ghost use Rattle.call_log.specs.Fed.{line_start, ended, fed_byte, fed, fed_to, ends_line, wrong_line};
-ghost use Rattle.call_log.specs.Read.{line_of, read_month};
+ghost use Rattle.std.specs.Prelude.{◌≡◌};
+ghost use Rattle.call_log.specs.Fed.{line_start, call_of, ended, fed_byte, fed, fed_to, ends_line, wrong_line};
 
 use logged_calls::Call;
-use part::{Line, Part, Place};
+use part::{in_line, line_start, stopped};
 
 // How many figures there are.
 pub const FIGURES: usize = logged_calls::figures::FIGURES;
 
 const MOST_LINES: u64 = 65535;
 
-// How far a log is read: in a line, with all good so far; or the first line that is wrong, whatever follows.
+// How far a log is read: the line, counted from 1, and whether all is good so far; the part of the line, how far into it, its number so
+// far; and the four numbers before that one. It is no enum of what a log leads to: `feed` takes any month and asks nothing, and `fed` of specs/ says what it makes
+// of each; so parts and places are numbers too.
 #[derive(Clone, Copy)]
-pub enum ReadMonth {
-    InLine(Line),
-    Wrong(u64),
+pub struct Month {
+    pub line: u64,
+    pub good: bool,
+    pub part: u64,
+    pub at: u64,
+    pub number: u64,
+    pub first: u64,
+    pub second: u64,
+    pub third: u64,
+    pub fourth: u64,
 }
 
 // A log of which nothing is read.
-pub fn start() -> ReadMonth
-    ensures { read_month result ≡ line_start 1 }
+pub fn start() -> Month
+    ensures { result ≡ line_start 1 }
 {
-    ReadMonth::InLine(Line::start(1))
+    line_start(1)
 }
 
-impl Line {
-    // The code of a line that a byte ends: the last number, before a LF.
-    fn code_ended(self, b: u8) -> Option<u64>
-        ensures some { is_some result ≡ ends_line (line_of self) b }
-        ensures code { IfSome result (λ code. (self.part ≡ Part.Code) × (self.place ≡ Place.Number code)) }
-    {
-        if b != b'\n' || self.part != Part::Code {
-            return None;
-        }
-        match self.place {
-            Place::Number(code) => Some(code),
-            Place::Name(_) => None,
-        }
-    }
-
-    // The line is ended: its call is taken, or the line is wrong.
-    fn ended(self, code: u64, figures: &mut [u64]) -> ReadMonth
-        ensures { fed_to (read_month result) figures.new ≡ ended (line_of (record self { part = Part.Code; place = Place.Number code })) figures.old }
-    {
-        let call = Call { code, ..self.call };
-        if MOST_LINES < self.line || !call.is_sound() {
-            return ReadMonth::Wrong(self.line);
-        }
-        log_figures::add(figures, call);
-        ReadMonth::InLine(Line::start(self.line + 1))
-    }
-
-    // A byte of the line.
-    fn fed(self, figures: &mut [u64], b: u8) -> ReadMonth
-        ensures { fed_to (read_month result) figures.new ≡ fed_byte (fed_to (line_of self) figures.old) b }
-    {
-        match self.code_ended(b) {
-            Some(code) => self.ended(code, figures),
-            None => self.in_line(b),
-        }
-    }
-
-    // Is something read of the line?
-    fn is_begun(self) -> bool
-        ensures { result ≡ not (eqb (line_of self).part 0 && eqb (line_of self).at 0) }
-    {
-        self.part != Part::Slot || !matches!(self.place, Place::Name(0))
+fn call_of(m: Month) -> Call
+    ensures { result ≡ call_of m }
+{
+    Call {
+        slot: m.first,
+        direction: m.second,
+        bits: m.third,
+        blocks: m.fourth,
+        code: m.number,
     }
 }
 
-// A byte of a log.
-fn feed_byte(m: ReadMonth, figures: &mut [u64], b: u8) -> ReadMonth
-    ensures { fed_to (read_month result) figures.new ≡ fed_byte (fed_to (read_month m) figures.old) b }
+// A line is ended.
+fn end_line(m: Month, figures: &mut [u64]) -> Month
+    ensures { fed_to result figures.new ≡ ended m figures.old }
 {
-    match m {
-        ReadMonth::InLine(line) => line.fed(figures, b),
-        ReadMonth::Wrong(_) => m,
+    let c = call_of(m);
+    if MOST_LINES < m.line {
+        return stopped(m.line);
     }
+    if !c.is_sound() {
+        return stopped(m.line);
+    }
+    log_figures::add(figures, c);
+    line_start(m.line + 1)
+}
+
+fn ends_line(m: Month, b: u8) -> bool
+    ensures { result ≡ ends_line m b }
+{
+    b == 10 && (m.part == 4 && 9 <= m.at)
+}
+
+fn feed_byte(m: Month, figures: &mut [u64], b: u8) -> Month
+    ensures { fed_to result figures.new ≡ fed_byte (fed_to m figures.old) b }
+{
+    if !m.good {
+        return m;
+    }
+    if ends_line(m, b) {
+        return end_line(m, figures);
+    }
+    in_line(m, b)
 }
 
 // The next block of a log. To feed two blocks one after the other is to feed them joined, wherever a line is cut.
-pub fn feed(m: ReadMonth, figures: &mut [u64], block: &[u8]) -> ReadMonth
-    ensures { fed_to (read_month result) figures.new ≡ fed (fed_to (read_month m) figures.old) block.now }
+pub fn feed(m: Month, figures: &mut [u64], block: &[u8]) -> Month
+    ensures { fed_to result figures.new ≡ fed (fed_to m figures.old) block.now }
 {
     let mut now = m;
     for b in block {
@@ -95,19 +93,18 @@ pub fn feed(m: ReadMonth, figures: &mut [u64], block: &[u8]) -> ReadMonth
     now
 }
 
-// Is all good so far?
-pub fn is_good(m: ReadMonth) -> bool
-    ensures { result ≡ (read_month m).good }
-{
-    matches!(m, ReadMonth::InLine(_))
-}
-
 // The first line that is wrong, once the log is over; 0 where there is none.
-pub fn wrong_line(m: ReadMonth) -> u64
-    ensures { result ≡ wrong_line (read_month m) }
+pub fn wrong_line(m: Month) -> u64
+    ensures { result ≡ wrong_line m }
 {
-    match m {
-        ReadMonth::InLine(line) => { if line.is_begun() { line.line } else { 0 } }
-        ReadMonth::Wrong(line) => line,
+    if !m.good {
+        return m.line;
     }
+    if m.part != 0 {
+        return m.line;
+    }
+    if m.at != 0 {
+        return m.line;
+    }
+    0
 }

@@ -1,187 +1,171 @@
-// A line that is being read, and what a byte makes of it.
-ghost use Rattle.std.specs.Prelude.{◌≡◌, ◌+◌, leb};
-ghost use Rattle.laws.specs.Choice.{pick};
-ghost use Rattle.call_log.specs.Fed.{line_start, final_part, stopped, next_part, high_of, part_name, after_digit, first_digit, in_line};
-ghost use Rattle.call_log.specs.Read.{part_number, line_of, read_month};
+// A byte of a line: of a part's name, or of its number.
+ghost use Rattle.std.specs.Prelude.{◌≡◌, ◌-◌, ◌<◌, ◌≤◌, get_or};
+ghost use Rattle.call_log.specs.Fed.{fresh, line_start, stopped, so_far, next_part, high_of, name_byte, after_digit, first_digit, of_name, in_line};
 
-use crate::ReadMonth;
-use logged_calls::Call;
+use crate::Month;
 use reading::{may_begin, may_follow};
 
-// A part of a line, each a name and a number.
-#[derive(Clone, Copy, PartialEq, Eq)]
-pub enum Part {
-    Slot,
-    Direction,
-    Bits,
-    Blocks,
-    Code,
-}
+const LAST_PART: u64 = 4;
 
-// How far a part is read: so many bytes of its name, or its number as far as it goes.
-#[derive(Clone, Copy)]
-pub enum Place {
-    Name(usize),
-    Number(u64),
-}
+const IN_NUMBER: u64 = 9;
 
-// A line, counted from 1: where it is read, and the numbers of the parts before.
-#[derive(Clone, Copy)]
-pub struct Line {
-    pub line: u64,
-    pub part: Part,
-    pub place: Place,
-    pub call: Call,
-}
-
-impl Part {
-    // The name, with the space before it.
-    #[tactic(auto, unfolding(crate::specs::Fed::part_name))]
-    fn name(self) -> &'static [u8]
-        ensures { result.now ≡ part_name (part_number self) }
-    {
-        match self {
-            Part::Slot => b"slot=",
-            Part::Direction => b" dir=",
-            Part::Bits => b" bits=",
-            Part::Blocks => b" blocks=",
-            Part::Code => b" code=",
-        }
-    }
-
-    // The largest number.
-    #[tactic(auto, unfolding(crate::specs::Fed::high_of))]
-    fn highest(self) -> u64
-        ensures { result ≡ high_of (part_number self) }
-    {
-        match self {
-            Part::Code => 27,
-            _ => 65535,
-        }
+// At a line's start, with nothing read of it.
+fn fresh(line: u64, good: bool) -> Month
+    ensures { result ≡ fresh line good }
+{
+    Month {
+        line,
+        good,
+        part: 0,
+        at: 0,
+        number: 0,
+        first: 0,
+        second: 0,
+        third: 0,
+        fourth: 0,
     }
 }
 
-impl Line {
-    // A line before its first byte.
-    pub fn start(line: u64) -> Line
-        ensures { line_of result ≡ line_start line }
-    {
-        let call = Call {
-            slot: 0,
-            direction: 0,
-            bits: 0,
-            blocks: 0,
-            code: 0,
-        };
-        Line {
-            line,
-            part: Part::Slot,
-            place: Place::Name(0),
-            call,
-        }
-    }
+pub fn line_start(line: u64) -> Month
+    ensures { result ≡ line_start line }
+{
+    fresh(line, true)
+}
 
-    // The line, so far into its part.
-    fn at(self, place: Place) -> ReadMonth
-        ensures { result ≡ ReadMonth.InLine (record self { place = place }) }
-    {
-        ReadMonth::InLine(Line { place, ..self })
-    }
+pub fn stopped(line: u64) -> Month
+    ensures { result ≡ stopped line }
+{
+    fresh(line, false)
+}
 
-    // The space before another part's name is read, with the numbers before it.
-    fn in_part(self, part: Part, call: Call) -> ReadMonth
-        ensures { result ≡ ReadMonth.InLine (record { line = self.line; part = part; place = Place.Name 1; call = call }) }
-    {
-        ReadMonth::InLine(Line {
-            part,
-            place: Place::Name(1),
-            call,
-            ..self
-        })
+fn so_far(m: Month, at: u64, number: u64) -> Month
+    ensures { result ≡ so_far m at number }
+{
+    Month {
+        line: m.line,
+        good: true,
+        part: m.part,
+        at,
+        number,
+        first: m.first,
+        second: m.second,
+        third: m.third,
+        fourth: m.fourth,
     }
+}
 
-    // The space behind a number: the next part, if there is one.
-    fn next_part(self, number: u64) -> ReadMonth
-        ensures { let m = line_of (record self { place = Place.Number number }) in
-            read_month result ≡ pick (leb final_part m.part) (stopped m.line) (next_part m (m.part + 1)) }
-    {
-        let call = self.call;
-        match self.part {
-            Part::Slot => self.in_part(
-                Part::Direction,
-                Call {
-                    slot: number,
-                    ..call
-                },
-            ),
-            Part::Direction => self.in_part(
-                Part::Bits,
-                Call {
-                    direction: number,
-                    ..call
-                },
-            ),
-            Part::Bits => self.in_part(
-                Part::Blocks,
-                Call {
-                    bits: number,
-                    ..call
-                },
-            ),
-            Part::Blocks => self.in_part(
-                Part::Code,
-                Call {
-                    blocks: number,
-                    ..call
-                },
-            ),
-            Part::Code => ReadMonth::Wrong(self.line),
-        }
+// The number joins the four before it.
+fn next_part(m: Month, part: u64) -> Month
+    ensures { result ≡ next_part m part }
+{
+    Month {
+        line: m.line,
+        good: true,
+        part,
+        at: 1,
+        number: 0,
+        first: m.second,
+        second: m.third,
+        third: m.fourth,
+        fourth: m.number,
     }
+}
 
-    // A digit more, the space after a number, or neither.
-    fn after_digit(self, number: u64, b: u8) -> ReadMonth
-        ensures { read_month result ≡ after_digit (line_of (record self { place = Place.Number number })) b }
-    {
-        if may_follow(self.part.highest(), number, b) {
-            return self.at(Place::Number(number * 10 + u64::from(b - b'0')));
-        }
-        if b == b' ' {
-            self.next_part(number)
-        } else {
-            ReadMonth::Wrong(self.line)
-        }
+fn high_of(part: u64) -> u64
+    ensures { result ≡ high_of part }
+{
+    if part == LAST_PART {
+        return 27;
     }
+    65535
+}
 
-    // A byte behind a name: the first digit of its number.
-    fn first_digit(self, b: u8) -> ReadMonth
-        ensures { read_month result ≡ first_digit (line_of self) b }
-    {
-        if may_begin(0, self.part.highest(), b) {
-            self.at(Place::Number(u64::from(b - b'0')))
-        } else {
-            ReadMonth::Wrong(self.line)
-        }
+// A byte of a name, or 0 behind it.
+fn byte_of(name: &[u8], at: u64) -> u8
+    ensures { result ≡ get_or name.now at 0 }
+{
+    let i = at as usize;
+    if i < name.len() {
+        return name[i];
     }
+    0
+}
 
-    // A byte behind so many of the name: the next one, or the first digit behind them all.
-    fn after_name(self, at: usize, b: u8) -> ReadMonth
-        ensures { read_month result ≡ in_line (line_of (record self { place = Place.Name at })) b }
-    {
-        match self.part.name().get(at) {
-            Some(name) if *name == b => self.at(Place::Name(at + 1)),
-            Some(_) => ReadMonth::Wrong(self.line),
-            None => self.first_digit(b),
-        }
+fn name_byte(part: u64, at: u64) -> u8
+    ensures { result ≡ name_byte part at }
+{
+    if part == 0 {
+        return byte_of(b"slot=", at);
     }
+    if part == 1 {
+        return byte_of(b" dir=", at);
+    }
+    if part == 2 {
+        return byte_of(b" bits=", at);
+    }
+    if part == 3 {
+        return byte_of(b" blocks=", at);
+    }
+    if part == 4 {
+        return byte_of(b" code=", at);
+    }
+    0
+}
 
-    // A byte that does not end the line.
-    pub fn in_line(self, b: u8) -> ReadMonth
-        ensures { read_month result ≡ in_line (line_of self) b }
-    {
-        match self.place {
-            Place::Name(at) => self.after_name(at, b),
-            Place::Number(number) => self.after_digit(number, b),
-        }
+fn digit(b: u8) -> u64
+    requires { 48 ≤ b }
+    ensures { result ≡ b - 48 }
+{
+    (b - 48) as u64
+}
+
+// A digit more, the space after a number, or neither.
+fn after_digit(m: Month, b: u8) -> Month
+    ensures { result ≡ after_digit m b }
+{
+    if may_follow(high_of(m.part), m.number, b) {
+        return so_far(m, IN_NUMBER, m.number * 10 + digit(b));
     }
+    if LAST_PART <= m.part {
+        return stopped(m.line);
+    }
+    if b != b' ' {
+        return stopped(m.line);
+    }
+    next_part(m, m.part + 1)
+}
+
+// A byte behind a name: the first digit of its number.
+fn first_digit(m: Month, b: u8) -> Month
+    ensures { result ≡ first_digit m b }
+{
+    if may_begin(0, high_of(m.part), b) {
+        return so_far(m, IN_NUMBER, digit(b));
+    }
+    stopped(m.line)
+}
+
+// A byte of a name, which is to be this one.
+fn of_name(m: Month, name: u8, b: u8) -> Month
+    requires { m.at < 9 }
+    ensures { result ≡ of_name m name b }
+{
+    if b == name {
+        return so_far(m, m.at + 1, 0);
+    }
+    stopped(m.line)
+}
+
+// A byte that does not end a line.
+pub fn in_line(m: Month, b: u8) -> Month
+    ensures { result ≡ in_line m b }
+{
+    if IN_NUMBER <= m.at {
+        return after_digit(m, b);
+    }
+    let name = name_byte(m.part, m.at);
+    if name == 0 {
+        return first_digit(m, b);
+    }
+    of_name(m, name, b)
 }

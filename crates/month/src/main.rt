@@ -1,20 +1,20 @@
 // The month sheet of a call log: reads the log from standard input, a block at a time, and writes its sheet, or the first line that is wrong, to standard output.
 #![tactic(auto)]
 
-use call_log::ReadMonth;
+use call_log::Month;
 use std::io;
 use std::io::{Read, Write};
 
 const BLOCK: usize = 65536;
 
 // Reads to the end of the input, or until a line is wrong. The blocks' count only bounds the loop: a log that long is wrong much earlier.
-fn read_log<R: Read>(reader: &mut R, figures: &mut [u64]) -> io::Result<ReadMonth> {
+fn read_log<R: Read>(reader: &mut R, figures: &mut [u64]) -> io::Result<Month> {
     let mut m = call_log::start();
     for _ in 0..u64::MAX {
         let mut block = [0u8; BLOCK];
         let n = filling::read_full(reader, &mut block)?;
         m = call_log::feed(m, figures, &block[..n]);
-        if n < BLOCK || !call_log::is_good(m) {
+        if n < BLOCK || !m.good {
             break;
         }
     }

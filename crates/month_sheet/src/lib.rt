@@ -6,7 +6,6 @@ ghost use Rattle.writing.specs.Text.{lf, digits};
 ghost use Rattle.writing.specs.Writing.{Room, Put};
 ghost use Rattle.logged_calls.specs.Figures.{total_row, calls_at, bits_at, blocks_at};
 ghost use Rattle.call_log.specs.Fed.{fed_to};
-ghost use Rattle.call_log.specs.Read.{read_month};
 ghost use Rattle.month_sheet.specs.Sheet.{
   row_text,
   count_text,
@@ -24,7 +23,7 @@ ghost use Rattle.month_sheet.specs.Sheet.{
   sheet_room,
 };
 
-use call_log::{ReadMonth, wrong_line};
+use call_log::{Month, wrong_line};
 use logged_calls::figures::{FIGURES, LINES_AT, TOTAL_ROW, bits_at, blocks_at, calls_at, count_at};
 use refusals::Refusal;
 use shares::share_of;
@@ -151,9 +150,9 @@ fn put_sheet<'a>(buffer: &'a mut [u8], figures: &'a [u64]) -> usize
 }
 
 // What is printed of a log that is read, at the front of the buffer, and its length. The bytes after it stay. A smaller buffer stays as it is, with length 0.
-pub fn print<'a>(m: ReadMonth, figures: &'a [u64], buffer: &'a mut [u8]) -> usize
-    ensures { (result ≡ printed_length (fed_to (read_month m) figures.now) buffer.old)
-        × (buffer.new ≡ printed_buffer (fed_to (read_month m) figures.now) buffer.old) }
+pub fn print<'a>(m: Month, figures: &'a [u64], buffer: &'a mut [u8]) -> usize
+    ensures { (result ≡ printed_length (fed_to m figures.now) buffer.old)
+        × (buffer.new ≡ printed_buffer (fed_to m figures.now) buffer.old) }
 {
     if buffer.len() < ROOM {
         return 0;

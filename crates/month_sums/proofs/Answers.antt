@@ -11,7 +11,7 @@ use borrow.Author.Tests.{eqb-true}
 use Rattle.laws.specs.Choice.{pick}
 use Rattle.laws.proofs.Cases.{and_left, and_right, pick-cases}
 use Rattle.logged_calls.specs.declared.Call.{Call}
-use Rattle.call_log.specs.Month.{Month}
+use Rattle.call_log.specs.declared.Month.{Month}
 use Rattle.logged_calls.specs.Log.{AllGood, call_text, log_text, most_lines}
 use Rattle.call_log.specs.Fed.{Fed, fed_to, fed, line_start, wrong_line, in_number, part_name}
 use Rattle.call_log.proofs.Feeds.{fed-append}

@@ -11,7 +11,7 @@ use borrow.Author.Tests.{eqb-true, leb-true}
 use Rattle.laws.proofs.Cases.{and_left, and_right}
 use Rattle.writing.specs.Text.{lf}
 use Rattle.logged_calls.specs.declared.Call.{Call}
-use Rattle.call_log.specs.Month.{Month}
+use Rattle.call_log.specs.declared.Month.{Month}
 use Rattle.logged_calls.specs.Log.{GoodCall, AllGood, none, call_text, log_text, is_sound, most_lines}
 use Rattle.logged_calls.specs.Figures.{added}
 use Rattle.call_log.specs.Fed.{Fed, fed_to, fed, fed_byte, line_start, stopped, final_part, in_number, in_line, ends_line, ended, taken, call_of}

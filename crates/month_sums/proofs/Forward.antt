@@ -13,7 +13,7 @@ use Rattle.forms.proofs.Decimals.{begin-is, follow-is, follow-yes, between_is}
 use Rattle.writing.specs.Text.{ascii, lf, digits, item, line_text}
 use Rattle.writing.proofs.Digits.{digits-one, digits-ten}
 use Rattle.logged_calls.specs.declared.Call.{Call}
-use Rattle.call_log.specs.Month.{Month}
+use Rattle.call_log.specs.declared.Month.{Month}
 use Rattle.logged_calls.specs.Log.{GoodCall, call_text, is_sound, most_lines}
 use Rattle.logged_calls.specs.Figures.{added}
 use Rattle.call_log.specs.Fed.{Fed, fed_to, fed, fed_byte, line_start, so_far, in_number, next_part, high_of, name_byte, part_name, in_line, after_digit, first_digit, of_name, ends_line, ended, taken, call_of}

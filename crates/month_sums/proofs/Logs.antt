@@ -10,7 +10,7 @@ use Rattle.laws.specs.Choice.{pick}
 use Rattle.laws.proofs.Cases.{pick-cases}
 use Rattle.forms.specs.Decimals.{may_begin, may_follow}
 use Rattle.logged_calls.specs.declared.Call.{Call}
-use Rattle.call_log.specs.Month.{Month}
+use Rattle.call_log.specs.declared.Month.{Month}
 use Rattle.logged_calls.specs.Log.{GoodCall, AllGood, none, more, call_text, log_text, most_lines}
 use Rattle.logged_calls.specs.Figures.{added}
 use Rattle.call_log.specs.Fed.{Fed, fed_to, fed, fed_byte, line_start, stopped, so_far, next_part, high_of, name_byte, final_part, in_number, in_line, after_digit, first_digit, of_name, ends_line, ended, taken, call_of}

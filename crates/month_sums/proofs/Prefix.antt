@@ -17,7 +17,7 @@ use Rattle.forms.proofs.Decimals.{begin-is, follow-is}
 use Rattle.writing.specs.Text.{ascii, lf, digits, item, line_text}
 use Rattle.writing.proofs.Digits.{digits-one, digits_more}
 use Rattle.logged_calls.specs.declared.Call.{Call}
-use Rattle.call_log.specs.Month.{Month}
+use Rattle.call_log.specs.declared.Month.{Month}
 use Rattle.logged_calls.specs.Log.{InForm, call_text, largest_number}
 use Rattle.call_log.specs.Fed.{so_far, in_number, final_part, next_part, line_start, stopped, high_of, name_byte, part_name, in_line, after_digit, first_digit, of_name, ends_line, call_of}
 use Rattle.call_log.proofs.Highs.{high-most}

@@ -2,9 +2,8 @@
 use mathlib.Core.Path.{◌≡◌}
 use lib.ListN.{length, drop}
 use Rattle.call_log.specs.Fed.{fed_to, fed}
-use Rattle.call_log.specs.Read.{read_month}
 use Rattle.call_log.proofs.feed.Given as goal
 
 abbrev pub invariant-loop-b : goal.invariant-loop-b
 invariant-loop-b l =
-    (length l.figures ≡ length l.initial.figures) × (fed (fed_to (read_month l.initial.now) l.initial.figures) l.block ≡ fed (fed_to (read_month l.now) l.figures) (drop l.b-index l.block))
+    (length l.figures ≡ length l.initial.figures) × (fed (fed_to l.initial.now l.initial.figures) l.block ≡ fed (fed_to l.now l.figures) (drop l.b-index l.block))

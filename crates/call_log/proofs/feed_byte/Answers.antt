@@ -1,11 +1,19 @@
--- `call_log::feed_byte`: a wrong line stays. Assumes nothing.
-use Rattle.std.proofs.Common.{sym, ap}
-use Rattle.call_log.specs.declared.ReadMonth.{ReadMonth}
+-- `call_log::feed_byte`: by the tests of what is read so far. Assumes nothing.
+use mathlib.Core.Path.{sym, ap, ◌∙◌}
+use borrow.Author.Tests.{not-true, not-false}
 use Rattle.call_log.specs.Fed.{fed_to}
-use Rattle.call_log.specs.Read.{read_month}
-use Rattle.call_log.proofs.Bytes.{byte-wrong}
+use Rattle.call_log.proofs.Bytes.{byte-wrong, byte-ends, byte-in}
 use Rattle.call_log.proofs.feed_byte.Goals as goal
 
-pub returns-in-Wrong : goal.returns-in-Wrong
-returns-in-Wrong c =
-    sym (byte-wrong (fed_to (read_month c.args.m) c.args.figures.now) c.args.b (ap (λ (m : ReadMonth). (read_month m).good) c.in-Wrong.is))
+pub returns-then-not-m : goal.returns-then-not-m
+returns-then-not-m c = sym (byte-wrong (fed_to c.args.m c.args.figures.now) _ (not-true _ c.if-not-m.true))
+
+pub returns-then-ends_line : goal.returns-then-ends_line
+returns-then-ends_line c =
+    c.end_line.ensures
+    ∙ sym (byte-ends (fed_to c.args.m c.args.figures.now) _ (not-false _ c.if-not-m.false) (sym c.ends_line.ensures ∙ c.if-ends_line.true))
+
+pub returns : goal.returns
+returns c =
+    ap (λ m. fed_to m c.args.figures.now) c.in_line.ensures
+    ∙ sym (byte-in (fed_to c.args.m c.args.figures.now) _ (not-false _ c.if-not-m.false) (sym c.ends_line.ensures ∙ c.if-ends_line.false))

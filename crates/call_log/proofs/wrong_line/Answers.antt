@@ -1,19 +1,20 @@
--- `call_log::wrong_line`: by the line. Assumes nothing.
-use Rattle.std.proofs.Common.{◌∙◌, sym, ap}
-use Rattle.call_log.specs.declared.ReadMonth.{ReadMonth}
+-- `call_log::wrong_line`: by the tests that led to it. Assumes nothing.
+use borrow.Author.Tests.{eq-eqb, ne_eqb, not-true, not-false}
 use Rattle.call_log.specs.Fed.{wrong_line}
-use Rattle.call_log.specs.Read.{read_month}
-use Rattle.call_log.proofs.Reading.{wrong-begun, wrong-fresh}
 use Rattle.call_log.proofs.wrong_line.Goals as goal
 
-pub returns-then-is_begun : goal.returns-then-is_begun
-returns-then-is_begun c =
-    wrong-begun c.in-InLine.line c.is_begun.ensures c.if-is_begun.true ∙ ap (λ (m : ReadMonth). wrong_line (read_month m)) (sym c.in-InLine.is)
-
-pub returns-else-is_begun : goal.returns-else-is_begun
-returns-else-is_begun c =
-    wrong-fresh c.in-InLine.line c.is_begun.ensures c.if-is_begun.false ∙ ap (λ (m : ReadMonth). wrong_line (read_month m)) (sym c.in-InLine.is)
-
-pub returns-in-Wrong : goal.returns-in-Wrong
+pub returns-then-not-m : goal.returns-then-not-m
 unfolding wrong_line
-returns-in-Wrong c = ap (λ (m : ReadMonth). wrong_line (read_month m)) (sym c.in-Wrong.is)
+returns-then-not-m c = rw (not-true c.args.m.good c.if-not-m.true)
+
+pub returns-then-m-ne0 : goal.returns-then-m-ne0
+unfolding wrong_line
+returns-then-m-ne0 c = rw (not-false c.args.m.good c.if-not-m.false, ne_eqb _ _ c.if-m-ne0.true)
+
+pub returns-then-m-ne0-2 : goal.returns-then-m-ne0-2
+unfolding wrong_line
+returns-then-m-ne0-2 c = rw (not-false c.args.m.good c.if-not-m.false, eq-eqb _ _ c.if-m-ne0.false, ne_eqb _ _ c.if-m-ne0-2.true)
+
+pub returns : goal.returns
+unfolding wrong_line
+returns c = rw (not-false c.args.m.good c.if-not-m.false, eq-eqb _ _ c.if-m-ne0.false, eq-eqb _ _ c.if-m-ne0-2.false)

@@ -6,7 +6,6 @@ use Rattle.writing.proofs.Puts.{put_as}
 use mathlib.Core.List.{◌++◌}
 use Rattle.writing.specs.Text.{digits, item, line_text}
 use Rattle.call_log.specs.Fed.{fed_to}
-use Rattle.call_log.specs.Read.{read_month}
 use Rattle.month_sheet.specs.Sheet.{wrong_line_text, printed_length, printed_buffer}
 use Rattle.month_sheet.proofs.Lengths.{refused-short}
 use Rattle.month_sheet.proofs.Printed.{printed, printed-sheet, printed-refused}
@@ -19,7 +18,7 @@ returns-then-buffer-lt-ROOM c = rw (lt-ltb _ _ c.if-buffer-lt-ROOM.true) (refl, 
 
 pub returns-then-line-eq0 : goal.returns-then-line-eq0
 returns-then-line-eq0 c =
-    let f = fed_to (read_month c.args.m) c.args.figures.now in
+    let f = fed_to c.args.m c.args.figures.now in
     let put = c.put_sheet.ensures in
     printed f _ c.if-buffer-lt-ROOM.false put.0 (put_as (sym (printed-sheet f (sym c.wrong_line-line.ensures ∙ c.if-line-eq0.true))) put.1)
 
@@ -32,7 +31,7 @@ put_pair-requires c =
 pub returns : goal.returns
 unfolding wrong_line_text
 returns c =
-    let f = fed_to (read_month c.args.m) c.args.figures.now in
+    let f = fed_to c.args.m c.args.figures.now in
     let line = c.wrong_line-line.ensures in
     let number = c.from-refusal.ensures ∙ c.number.ensures in
     let put = put_as (λ i. item "refused=" (digits (number i)) ++ line_text " line=" (digits c.wrong_line-line.result)) c.put_pair.ensures in
