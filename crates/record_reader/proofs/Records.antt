@@ -22,7 +22,9 @@ use Rattle.record_text.specs.Text.{use_word, code_text, lines_text, form_text, I
 use Rattle.forms.specs.Form.{Form, done, Outcome, found, wrong, read_at, literal, line, ◌>>=◌}
 use Rattle.forms.specs.Decimals.{decimal}
 use Rattle.record_reader.specs.Record.{Entry, lines_form, record_form, opened, outcome_of}
-use Rattle.forms.proofs.Forms.{Spells, spelt, onto, Means, line-means, then-means, last-means}
+use Rattle.forms.proofs.Forms.{Spells, spelt, onto, Means, line-means, then-means, last-means, stops, stop-within}
+use Prim.Native.Nat.{zero-le}
+use Rattle.std.specs.Prelude.{IfErr, length}
 use Rattle.forms.proofs.Decimals.{decimal-means, between_is}
 use Rattle.record_reader.proofs.Lines.{use-means, algorithm-means, key-means}
 use Rattle.reading.proofs.Steps.{on_both, on-at, on_then, step-done}
@@ -259,3 +261,8 @@ module _ (two : Bool) (s : List ℕ) {start number version alg_name algorithm us
       ∙ on_then _ _ _ _ w
       ∙ key-then _ _ _ _ (k ∙ ap key_answer (sym (on_then _ _ _ _ kn)))
       ∙ ap (λ o. pick key.good o (wrong key.place)) (step-done _ s key.place)
+
+-- a byte that is wrong, or the end, lies within the text
+pub front-within : (two : Bool) (s : List ℕ) (r : Result Record WrongAt) → outcome_of r ≡ read_at (record_form two) s 0 → IfErr r (λ w. w.place ≤ length s)
+front-within two s (Ok _) e = tt
+front-within two s (Err w) e = stop-within (stops (record_form two) (record-means two).live _ 0 _ (sym e)) zero-le
