@@ -4,7 +4,7 @@ ghost use Rattle.record_reader.specs.Record.{record_read};
 ghost use Rattle.faces.specs.Faces.{asking, read_as, read_out, written_as, written_out};
 
 use faces::{asked_for, shown_numbers};
-use record_reader::{bad_text, read_front};
+use record_reader::{bad_text, read_lines, starts_form};
 use refusals::Refusal;
 
 // Reads one record from the front of a text: leaves its number and fields in `shown`, its key in `key`, and how many bytes it took in
@@ -21,7 +21,7 @@ pub extern "C" fn card_record_read(
     ensures { read_as result shown.new key.new used.new line.new column.new
         ≡ read_out (record_read text.now) }
 {
-    match read_front(text) {
+    match read_lines(text, starts_form(text)) {
         Ok(record) => {
             let bytes = record.key;
             *shown = shown_numbers(record.number, record.fields);

@@ -21,7 +21,7 @@ use Rattle.writing.specs.Text.{ascii, digits, hex_text, line_text}
 use Rattle.record_text.specs.Text.{use_word, code_text, lines_text, form_text, InCode, Good}
 use Rattle.forms.specs.Form.{Form, done, Outcome, found, wrong, read_at, literal, line, ◌>>=◌}
 use Rattle.forms.specs.Decimals.{decimal}
-use Rattle.record_reader.specs.Record.{Entry, lines_form, record_form, opened, outcome_of}
+use Rattle.record_reader.specs.Record.{Entry, lines_form, record_form, opened, outcome_of, read_answer, record_read, starts_form}
 use Rattle.forms.proofs.Forms.{Spells, spelt, onto, Means, line-means, then-means, last-means, stops, stop-within}
 use Prim.Native.Nat.{zero-le}
 use Rattle.std.specs.Prelude.{IfErr, length}
@@ -263,6 +263,12 @@ module _ (two : Bool) (s : List ℕ) {start number version alg_name algorithm us
       ∙ ap (λ o. pick key.good o (wrong key.place)) (step-done _ s key.place)
 
 -- a byte that is wrong, or the end, lies within the text
-pub front-within : (two : Bool) (s : List ℕ) (r : Result Record WrongAt) → outcome_of r ≡ read_at (record_form two) s 0 → IfErr r (λ w. w.place ≤ length s)
-front-within two s (Ok _) e = tt
-front-within two s (Err w) e = stop-within (stops (record_form two) (record-means two).live _ 0 _ (sym e)) zero-le
+pub front_within : (two : Bool) (s : List ℕ) (r : Result Record WrongAt) → outcome_of r ≡ read_at (record_form two) s 0 → IfErr r (λ w. w.place ≤ length s)
+front_within two s (Ok _) e = tt
+front_within two s (Err w) e = stop-within (stops (record_form two) (record-means two).live _ 0 _ (sym e)) zero-le
+
+-- what was read of the form that the first byte tells is what reading answers
+pub lines_answer : (s : List ℕ) (two : Bool) (r : Result Record WrongAt) → two ≡ starts_form s → outcome_of r ≡ read_at (record_form two) s 0
+    → read_answer s (outcome_of r) ≡ record_read s
+unfolding record_read
+lines_answer s two r e o = ap (read_answer s) (o ∙ ap (λ (t : Bool). read_at (record_form t) s 0) e)

@@ -1,13 +1,13 @@
 // Key records read from text (document 01, "Key records"): one from the front of a text.
 #![tactic(auto)]
 
-ghost use Rattle.std.specs.Prelude.{Err, IfErr, ◌≡◌, ◌≤◌, length};
+ghost use Rattle.std.specs.Prelude.{Err, ◌≡◌, ◌≤◌, length};
 ghost use Rattle.laws.specs.Choice.{pick};
 ghost use Rattle.forms.specs.Form.{done, named, read_at};
 ghost use Rattle.forms.specs.Decimals.{decimal};
 ghost use Rattle.reading.specs.Reading.{onward, answer, reading_of};
 ghost use Rattle.record_reader.specs.Lines.{key_reading_of, key_answer, use_form, algorithm_form, key_form};
-ghost use Rattle.record_reader.specs.Record.{record_form, starts_form, opened, outcome_of, read_answer, read_of, refused_at, record_read};
+ghost use Rattle.record_reader.specs.Record.{record_form, starts_form, opened, outcome_of, read_of, refused_at, record_read};
 
 use algorithms::name;
 use fields::Fields;
@@ -85,7 +85,7 @@ pub fn bad_text(text: &[u8], place: usize) -> BadText
 }
 
 // Is the text one of form 2? Its first byte decides.
-fn starts_form(text: &[u8]) -> bool
+pub fn starts_form(text: &[u8]) -> bool
     ensures { result ≡ starts_form text.now }
 {
     text.starts_with(b"f")
@@ -117,7 +117,7 @@ fn read_code<'a>(text: &'a [u8], before: Reading, two: bool, name: &'a [u8], hig
 }
 
 // The record of a form at the front of a text, or the place of the first byte that is wrong.
-fn read_lines(text: &[u8], two: bool) -> Result<Record, WrongAt>
+pub fn read_lines(text: &[u8], two: bool) -> Result<Record, WrongAt>
     ensures { outcome_of result ≡ read_at (record_form two) text.now 0 }
 {
     let number = read_line(text, read_form(text, two), b"number=", 1, 32)?;
@@ -146,19 +146,12 @@ fn read_lines(text: &[u8], two: bool) -> Result<Record, WrongAt>
     })
 }
 
-// One record from the front of a text, or the place of the first byte that is wrong. What follows the record is not judged.
-pub fn read_front(text: &[u8]) -> Result<Record, WrongAt>
-    ensures answer { read_answer text.now (outcome_of result) ≡ record_read text.now }
-    ensures within { IfErr result (λ w. w.place ≤ length text.now) }
-{
-    read_lines(text, starts_form(text))
-}
-
-// The same, with line and column. (It lays the record, and so its key, once more on the stack: the call for C takes the one above.)
+// One record from the front of a text. What follows it is not judged. (It lays the record, and so its key, once more on the stack than `read_lines`,
+// which the call for C takes.)
 pub fn read_record(text: &[u8]) -> Result<Record, BadText>
     ensures { read_of result ≡ record_read text.now }
 {
-    match read_front(text) {
+    match read_lines(text, starts_form(text)) {
         Ok(record) => Ok(record),
         Err(wrong) => Err(bad_text(text, wrong.place)),
     }
