@@ -24,7 +24,7 @@ const S_BOX: [u8; 256] = *b"\
     \x8c\xa1\x89\x0d\xbf\xe6\x42\x68\x41\x99\x2d\x0f\xb0\x54\xbb\x16";
 
 // The S-box as a table. A public call makes it once and lends it: a function that names a constant copies it.
-#[derive(Drop)]
+#[derive(Clone, Copy)]
 pub struct SBox {
     table: [u8; 256],
     ghost is_s_box: { table ≡ s_boxes },
@@ -35,6 +35,14 @@ impl SBox {
         ensures { result.table ≡ s_boxes }
     {
         SBox { table: S_BOX }
+    }
+
+    // A caller's own array, where it is the S-box.
+    pub fn of(table: [u8; 256]) -> Self
+        requires { table ≡ s_boxes }
+        ensures { result.table ≡ s_boxes }
+    {
+        SBox { table }
     }
 
     // b through the S-box.

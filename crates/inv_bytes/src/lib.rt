@@ -28,7 +28,7 @@ const INV_S_BOX: [u8; 256] = *b"\
     \x17\x2b\x04\x7e\xba\x77\xd6\x26\xe1\x69\x14\x63\x55\x21\x0c\x7d";
 
 // The inverse S-box as a table, to be made once and lent: a function that names a constant copies it.
-#[derive(Drop)]
+#[derive(Clone, Copy)]
 pub struct InvSBox {
     table: [u8; 256],
     ghost is_inv_s_box: { table ≡ inv_s_boxes },
@@ -39,6 +39,14 @@ impl InvSBox {
         ensures { result.table ≡ inv_s_boxes }
     {
         InvSBox { table: INV_S_BOX }
+    }
+
+    // A caller's own array, where it is the inverse S-box.
+    pub fn of(table: [u8; 256]) -> Self
+        requires { table ≡ inv_s_boxes }
+        ensures { result.table ≡ inv_s_boxes }
+    {
+        InvSBox { table }
     }
 
     // b through the inverse S-box.

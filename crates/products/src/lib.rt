@@ -137,7 +137,7 @@ const PRODUCTS: [u8; 2048] = *b"\
     \xd6\xbb\xbb\x6d\xd6\xbb\xbb\x6d\x3a\x16\x16\x2c\x3a\x16\x16\x2c";
 
 // The table. A public call makes it once and lends it: a function that names a constant copies it.
-#[derive(Drop)]
+#[derive(Clone, Copy)]
 pub struct ProductTable {
     table: [u8; 2048],
     ghost is_products: { table ≡ products },
@@ -148,6 +148,14 @@ impl ProductTable {
         ensures { result.table ≡ products }
     {
         ProductTable { table: PRODUCTS }
+    }
+
+    // A caller's own array, where it is the table.
+    pub fn of(table: [u8; 2048]) -> Self
+        requires { table ≡ products }
+        ensures { result.table ≡ products }
+    {
+        ProductTable { table }
     }
 
     // What byte b adds, at one of its eight places.
