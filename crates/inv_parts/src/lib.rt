@@ -1,12 +1,15 @@
 // Rows turned back, and the round keys of a schedule mixed back.
 #![tactic(auto)]
 
+mod lent;
+
 ghost use Rattle.std.specs.Prelude.{◌≡◌, get_or};
 ghost use Rattle.laws.specs.Lists.{tabulate};
 ghost use Rattle.inv_parts.specs.Steps.{inv_shift_row};
 ghost use Rattle.inv_parts.specs.Schedule.{inv_mixed_word, mixed_back};
 
 use inv_bytes::inv_mixed_byte;
+pub use lent::mix_back;
 use words::{byte0, byte1, byte2, byte3, join_bytes};
 
 // Rows 1, 2, 3 turn right by 1, 3, 4. A function of both directions would be no plainer: its contract would need a definition of both.
@@ -40,7 +43,7 @@ fn inv_mixed_word(x: u32) -> u32
 }
 
 // Of a schedule of 120 words in a lent array, round keys 1 to 13, each of eight words. The first and the last stay.
-pub fn mix_back(w: &mut [u32; 120])
+pub fn mix_schedule_back(w: &mut [u32; 120])
     ensures { w.new ≡ tabulate (λ i. mixed_back i (get_or w.old i 0)) 0 120 }
 {
     for i in 8..112 {

@@ -48,11 +48,11 @@ struct Engine<'a> {
     ghost keyed: { w.now ≡ tabulate (key_word mode.now.key) 0 120 },
 }
 
-// Fills the schedule: the one caller of expand_key.
+// Fills the schedule: the card's one caller of `fill_schedule`.
 fn begin(w: &mut [u32; 120], key: [u8; 24], table: &SBox) -> Work
     ensures { (w.new ≡ tabulate (key_word key) 0 120) × (result ≡ begun) }
 {
-    schedule::expand_key(w, key, table);
+    schedule::fill_schedule(w, key, table);
     Work {
         schedules: 1,
         blocks: 0,
@@ -60,7 +60,7 @@ fn begin(w: &mut [u32; 120], key: [u8; 24], table: &SBox) -> Work
     }
 }
 
-// Makes block j: the one caller of encrypt_block. Each number is above those made before, so none is made
+// Makes block j: the card's one caller of `cipher_block`. Each number is above those made before, so none is made
 // twice. The block is kept by the parity of its number: an array that is not indexed by a variable would be taken apart into 32 numbers, which
 // cost a long call 6 % of its time.
 fn make(work: Work, kept: &mut [[u8; 32]; 2], engine: &Engine, j: usize) -> Work
@@ -69,7 +69,7 @@ fn make(work: Work, kept: &mut [[u8; 32]; 2], engine: &Engine, j: usize) -> Work
 {
     let mode = engine.mode;
     let value = mode.value;
-    kept[j % 2] = rijndael::encrypt_block(
+    kept[j % 2] = rijndael::cipher_block(
         tea::plaintext::plaintext(value, mode.digit, j as u32),
         engine.w,
         engine.table,

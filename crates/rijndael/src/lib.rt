@@ -1,13 +1,16 @@
 // Rijndael with blocks of 256 bits and keys of 192 bits: 14 rounds on a state of four rows by eight columns.
 #![tactic(auto)]
 
+mod lent;
+
 ghost use Rattle.std.specs.Prelude.{◌≡◌, ◌+◌, ◌*◌, get_or};
 ghost use Rattle.rijndael.specs.Cipher.{to_state, to_block, encrypted};
 
 use gf256::SBox;
+pub use lent::encrypt_block;
 use products::ProductTable;
 use round_steps::last_round;
-use rounds::packing::{from_words, keyed_words, to_words};
+use rounds::packing::{first_keyed_words, from_words, to_words};
 use rounds::round;
 
 // Byte k of a block stands in row k mod 4, column k div 4.
@@ -60,7 +63,7 @@ fn with_pair(t: [u32; 8], pair: u64) -> [u32; 8]
 fn encrypt(s: [[u8; 8]; 4], w: &[u32; 120], table: &SBox, mixes: &ProductTable) -> [[u8; 8]; 4]
     ensures { result ≡ encrypted w.now s }
 {
-    let mut t = keyed_words(s, w);
+    let mut t = first_keyed_words(s, w);
     let mut pair = pair_of(t);
     for n in 1..14 {
         let u = to_words(round(from_words(with_pair(t, pair)), w, n, mixes));
@@ -71,7 +74,7 @@ fn encrypt(s: [[u8; 8]; 4], w: &[u32; 120], table: &SBox, mixes: &ProductTable) 
 }
 
 // A block under a schedule. It is the one caller of `encrypt`, which is inlined only so.
-pub fn encrypt_block(b: [u8; 32], w: &[u32; 120], table: &SBox, mixes: &ProductTable) -> [u8; 32]
+pub fn cipher_block(b: [u8; 32], w: &[u32; 120], table: &SBox, mixes: &ProductTable) -> [u8; 32]
     ensures { result ≡ to_block (encrypted w.now (to_state b)) }
 {
     to_block(encrypt(to_state(b), w, table, mixes))

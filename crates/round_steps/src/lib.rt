@@ -1,10 +1,13 @@
 // The steps of a round (the Rijndael proposal, 4.2), on a state of four rows by eight columns by value: loops over the columns.
 #![tactic(auto)]
 
+mod lent;
+
 ghost use Rattle.std.specs.Prelude.{◌≡◌, ◌<◌};
 ghost use Rattle.round_steps.specs.Steps.{byte_sub, shift_row, add_round_key, final_round};
 
 use gf256::SBox;
+pub use lent::add_round_key;
 use words::{byte0, byte1, byte2, byte3};
 
 fn byte_sub(s: [[u8; 8]; 4], table: &SBox) -> [[u8; 8]; 4]
@@ -32,7 +35,8 @@ fn shift_row(s: [[u8; 8]; 4]) -> [[u8; 8]; 4]
     t
 }
 
-pub fn add_round_key(s: [[u8; 8]; 4], w: &[u32; 120], n: usize) -> [[u8; 8]; 4]
+// Round n's key, words 8 n to 8 n + 7 of the schedule, one to a column.
+pub fn add_key_of_round(s: [[u8; 8]; 4], w: &[u32; 120], n: usize) -> [[u8; 8]; 4]
     requires { n < 15 }
     ensures { result ≡ add_round_key w.now n s }
 {
@@ -51,5 +55,5 @@ pub fn last_round(s: [[u8; 8]; 4], w: &[u32; 120], n: usize, table: &SBox) -> [[
     requires { n < 15 }
     ensures { result ≡ final_round w.now n s }
 {
-    add_round_key(shift_row(byte_sub(s, table)), w, n)
+    add_key_of_round(shift_row(byte_sub(s, table)), w, n)
 }

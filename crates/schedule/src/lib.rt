@@ -1,11 +1,14 @@
 // The key schedule with six key words (the Rijndael proposal, 4.3.1): 120 words of 32 bits in a lent array, six words a turn.
 #![tactic(auto)]
 
+mod lent;
+
 ghost use Rattle.std.specs.Prelude.{◌≡◌, List, ℕ, ◌<◌, ◌≤◌, ◌+◌, ◌-◌, ◌*◌, get_or};
 ghost use Rattle.laws.specs.Lists.{tabulate, Filled};
 ghost use Rattle.schedule.specs.Schedule.{rot_byte, sub_byte, round_constant, key_word};
 
 use gf256::SBox;
+pub use lent::expand_key;
 use words::{byte0, byte1, byte2, byte3, join_bytes};
 
 const ROUND_CONSTANTS: [u8; 19] = *b"\
@@ -72,7 +75,7 @@ fn more_words(w: &mut [u32; 120], table: &SBox)
 }
 
 // Fills the schedule of a key, for the blocks to come.
-pub fn expand_key(w: &mut [u32; 120], key: [u8; 24], table: &SBox)
+pub fn fill_schedule(w: &mut [u32; 120], key: [u8; 24], table: &SBox)
     ensures { w.new ≡ tabulate (key_word key) 0 120 }
 {
     key_words(w, key);

@@ -20,4 +20,4 @@ pub returns : goal.returns
 unfolding decrypted
 returns c =
     let e : c.loop-n.n ≡ 13 = omega arith in
-    rw (c.inv_last_round.ensures, c.loop-n.invariant.1, e, c.add_round_key-t.ensures)
+    rw (c.inv_last_round.ensures, c.loop-n.invariant.1, e, c.add_key_of_round-t.ensures)

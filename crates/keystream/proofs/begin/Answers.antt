@@ -3,4 +3,4 @@ use mathlib.Core.Path.{refl}
 use Rattle.keystream.proofs.begin.Goals as goal
 
 pub returns : goal.returns
-returns c = (c.expand_key.ensures, refl)
+returns c = (c.fill_schedule.ensures, refl)

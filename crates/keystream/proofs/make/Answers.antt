@@ -11,5 +11,5 @@ pub returns : goal.returns
 unfolding block_of cipher
 returns c =
     let a = c.args in
-    let block = c.encrypt_block.ensures ∙ (λ i. to_block (encrypted (c.args.engine.now.keyed i) (to_state (c.plaintext.ensures i)))) in
+    let block = c.cipher_block.ensures ∙ (λ i. to_block (encrypted (c.args.engine.now.keyed i) (to_state (c.plaintext.ensures i)))) in
     (refl, ap (λ (b : List ℕ). set a.kept.now (a.j % 2) b) block)

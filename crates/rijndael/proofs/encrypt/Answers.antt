@@ -23,4 +23,4 @@ pub returns : goal.returns
 unfolding encrypted
 returns c =
     let e : c.loop-n.n - 1 ≡ 13 = omega arith in
-    rw (c.last_round.ensures, c.from_words-2.ensures, c.with_pair-2.ensures, c.loop-n.invariant.1.0, e, c.keyed_words-t.ensures)
+    rw (c.last_round.ensures, c.from_words-2.ensures, c.with_pair-2.ensures, c.loop-n.invariant.1.0, e, c.first_keyed_words-t.ensures)

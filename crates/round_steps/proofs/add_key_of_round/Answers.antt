@@ -1,10 +1,10 @@
--- `round_steps::add_round_key`: column by column, `Columns`. Assumes nothing.
+-- `round_steps::add_key_of_round`: column by column, `Columns`. Assumes nothing.
 use mathlib.Core.Path.{ap}
 use lib.Bits.{bit_xor}
 use Rattle.round_steps.specs.Steps.{add_round_key}
 use Rattle.laws.proofs.States.{columns-none, columns-more, columns-all, state-shape}
 use Rattle.laws.specs.Lists.{cell}
-use Rattle.round_steps.proofs.add_round_key.Goals as goal
+use Rattle.round_steps.proofs.add_key_of_round.Goals as goal
 
 pub loop-c-init : goal.loop-c-init
 loop-c-init c = columns-none (state-shape c.well_formed.0)

@@ -1,4 +1,4 @@
--- `inv_parts::mix_back`: `Filled` to i, and from i on the words are as they were. Assumes nothing.
+-- `inv_parts::mix_schedule_back`: `Filled` to i, and from i on the words are as they were. Assumes nothing.
 use mathlib.Core.Path.{refl, ap, ◌∙◌}
 use Prim.Native.Nat.{◌-◌, ◌<◌, ◌≤◌}
 use native.Mathlib.Omega.{arith}
@@ -8,7 +8,7 @@ use lib.Seq.{get_or-set_other}
 use Rattle.laws.proofs.Lists.{fill_more}
 use Rattle.inv_parts.specs.Schedule.{inv_mixed_word}
 use Rattle.inv_parts.proofs.MixedBack.{first-stays, between-mixed, all-mixed}
-use Rattle.inv_parts.proofs.mix_back.Goals as goal
+use Rattle.inv_parts.proofs.mix_schedule_back.Goals as goal
 
 pub loop-i-init : goal.loop-i-init
 loop-i-init c =

@@ -1,8 +1,8 @@
--- `rounds::packing::keyed_words`: word by word, `Packed`. Assumes nothing.
+-- `rounds::packing::first_keyed_words`: word by word, `Packed`. Assumes nothing.
 use mathlib.Core.Path.{refl}
 use Rattle.round_steps.specs.Steps.{add_round_key}
 use Rattle.rounds.proofs.Columns.{pack-none, pack-all, keyed-more}
-use Rattle.rounds.proofs.packing.keyed_words.Goals as goal
+use Rattle.rounds.proofs.packing.first_keyed_words.Goals as goal
 
 pub loop-c-init : goal.loop-c-init
 loop-c-init c = pack-none refl

@@ -1,7 +1,7 @@
--- `schedule::expand_key`: the two loops, one after the other. Assumes nothing.
+-- `schedule::fill_schedule`: the two loops, one after the other. Assumes nothing.
 use lib.Dec.{lit≤}
 use Rattle.laws.proofs.Lists.{fill-all}
-use Rattle.schedule.proofs.expand_key.Goals as goal
+use Rattle.schedule.proofs.fill_schedule.Goals as goal
 
 pub returns : goal.returns
 returns c = fill-all (c.more_words.ensures _ c.key_words.ensures) (lit≤ tt)

@@ -1,5 +1,0 @@
--- `inverse::decrypt_block`: by the callees' contracts. Assumes nothing.
-use Rattle.inverse.proofs.decrypt_block.Goals as goal
-
-pub returns : goal.returns
-returns c = cc
