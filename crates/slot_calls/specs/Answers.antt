@@ -8,11 +8,7 @@ use Rattle.fields.specs.declared.Fields.{Fields}
 use Rattle.slots.specs.declared.Slot.{Slot}
 use Rattle.slots.specs.Slots.{no_fields, empty}
 use Rattle.slot_calls.specs.declared.Found.{Found}
-
--- the answer to a call that changes one slot: where it is not refused, the slot becomes this one
-pub record Put : Type 0 where
-  pub refusal : ℕ
-  pub slot : Slot
+use Rattle.slot_calls.specs.declared.Put.{Put}
 
 -- the answer to a call that changes the table
 pub record Changed : Type 0 where

@@ -6,7 +6,8 @@ use Rattle.refusals.specs.Numbers.{done}
 use Rattle.fields.specs.declared.Asked.{Asked}
 use Rattle.fields.specs.Fields.{is_slot_number, stored_of}
 use Rattle.slots.specs.declared.Slot.{Slot}
-use Rattle.slot_calls.specs.Answers.{Put, Changed}
+use Rattle.slot_calls.specs.declared.Put.{Put}
+use Rattle.slot_calls.specs.Answers.{Changed}
 use Rattle.slots.specs.Slots.{empty, slot_at, with_slot}
 use Rattle.slot_calls.specs.Calls.{load_refusal_of, clear_refusal_of, moved_slot}
 

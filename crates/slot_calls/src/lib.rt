@@ -11,6 +11,7 @@ ghost use Rattle.slot_calls.specs.Seen.{key_slot};
 
 use fields::{Asked, Fields};
 use refusals::Refusal;
+use slots::Slot;
 
 // The number of no slot. It is a number and no `None`, as `key_slot` of specs/ has it.
 pub const NO_SLOT: u64 = 0;
@@ -20,6 +21,13 @@ pub const NO_SLOT: u64 = 0;
 pub struct Found {
     pub number: u64,
     pub fields: Fields,
+}
+
+// The answer to a call that changes one slot: where it is not refused, the slot becomes this one.
+#[derive(Clone, Copy)]
+pub struct Put {
+    pub refusal: u8,
+    pub slot: Slot,
 }
 
 // Each call is judged by whether its table is bad and by the fields of its slots. No key is looked at: in a table without a bad slot,
@@ -83,9 +91,13 @@ pub fn clear_refusal(bad: bool, f: Fields, number: u64) -> Result<(), Refusal>
     slot_refusal(f, number)
 }
 
-// Whose key a call so judged reads: the slot's of its number, and no slot's after a refusal.
-pub fn key_slot(judged: Result<(), Refusal>, number: u64) -> u64
-    ensures { result ≡ key_slot (eqb (number_of judged) done) number }
+// Whose key a call with this refusal reads: the slot's of its number, and no slot's after a refusal.
+pub fn key_slot(refusal: u8, number: u64) -> u64
+    ensures { result ≡ key_slot (eqb refusal done) number }
 {
-    if judged.is_ok() { number } else { NO_SLOT }
+    if refusal == refusals::DONE {
+        number
+    } else {
+        NO_SLOT
+    }
 }

@@ -6,7 +6,7 @@ use Rattle.refusals.specs.Numbers.{done}
 use Rattle.fields.specs.declared.Fields.{Fields}
 use Rattle.fields.specs.Fields.{is_slot_number}
 use Rattle.slots.specs.declared.Slot.{Slot}
-use Rattle.slot_calls.specs.Answers.{Put}
+use Rattle.slot_calls.specs.declared.Put.{Put}
 use Rattle.slots.specs.Slots.{has_bad, empty, nil}
 
 abbrev pub is_table : List Slot → Bool

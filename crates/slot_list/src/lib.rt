@@ -9,6 +9,7 @@ ghost use Rattle.slot_list.specs.List.{is_no_table, place_of, fields_in, slot_in
 
 use fields::Fields;
 use refusals::Refusal;
+use slot_calls::Put;
 use slots::Slot;
 
 // Whether the lent records are no table: there is another number of them than 32, or one is neither empty nor filled.
@@ -53,7 +54,7 @@ pub fn fields_in(t: &[Slot], number: u64) -> Fields
 }
 
 // The slot goes to its place, and the answer to the caller. A refusal changes nothing.
-pub fn put_slot(t: &mut [Slot], number: u64, put: Result<Slot, Refusal>) -> Result<(), Refusal>
+pub fn store(t: &mut [Slot], number: u64, put: Result<Slot, Refusal>) -> Result<(), Refusal>
     ensures answer { number_of result ≡ (put_of put).refusal }
     ensures after { t.new ≡ put_in t.old number (put_of put) }
 {
@@ -62,4 +63,14 @@ pub fn put_slot(t: &mut [Slot], number: u64, put: Result<Slot, Refusal>) -> Resu
         t[i] = slot;
     }
     Ok(())
+}
+
+// The same by the number of the refusal, which may be none of ours.
+pub fn put_slot(t: &mut [Slot], number: u64, put: Put) -> u8
+    ensures { (result ≡ put.refusal) × (t.new ≡ put_in t.old number put) }
+{
+    if put.refusal != refusals::DONE {
+        return put.refusal;
+    }
+    refusals::number_of(store(t, number, Ok(put.slot)))
 }

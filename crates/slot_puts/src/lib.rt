@@ -12,7 +12,7 @@ ghost use Rattle.slot_calls.specs.Seen.{load_put, move_put, emptied_by, clear_pu
 
 use fields::{Asked, Fields};
 use refusals::Refusal;
-use slot_calls::{Found, clear_refusal, load_refusal};
+use slot_calls::{Found, Put, clear_refusal, load_refusal};
 use slots::Slot;
 
 // The slot as a move leaves it in its new place.
@@ -43,8 +43,25 @@ pub fn load_of(
     })
 }
 
-// What the target becomes of a move so judged; the source becomes an empty slot. The slot is looked at where it is carried.
-pub fn move_of(judged: Result<(), Refusal>, slot: Slot, asked: u64) -> Result<Slot, Refusal>
+// What the target becomes of a move with this refusal; the source becomes an empty slot. The slot is looked at where it is carried.
+pub fn move_of(refusal: u8, slot: Slot, asked: u64) -> Put
+    requires { refusal ≡ done → stays_within slot.fields.usage asked ≡ true }
+    ensures { result ≡ move_put refusal slot asked }
+{
+    if refusal != refusals::DONE {
+        return Put {
+            refusal,
+            slot: slots::empty_slot(),
+        };
+    }
+    Put {
+        refusal,
+        slot: moved_slot(slot, asked),
+    }
+}
+
+// The same of a move so judged, with its refusal as it is.
+pub fn carried(judged: Result<(), Refusal>, slot: Slot, asked: u64) -> Result<Slot, Refusal>
     requires { number_of judged ≡ done → stays_within slot.fields.usage asked ≡ true }
     ensures { put_of result ≡ move_put (number_of judged) slot asked }
 {

@@ -2,11 +2,13 @@
 use mathlib.Core.Bool.{Bool, true, false, ◌&&◌, ◌||◌, not, and-true, and-false, true≢false}
 use mathlib.Core.List.{List, [], ◌∷◌}
 use mathlib.Core.Path.{◌≡◌, refl, sym, ap, ◌∙◌}
-use Prim.Native.Nat.{ℕ, zero, suc}
+use Prim.Native.Nat.{ℕ, zero, suc, ◌+◌, ◌<◌, ◌≤◌}
+use native.Mathlib.Numerals.{add-one}
 use native.Mathlib.Omega.{arith}
 use borrow.Author.Tests.{not-true, ne_eqb}
 use lib.Dec.{eqb}
-use lib.ListN.{get_or, set}
+use lib.ListN.{length, get_or, set, drop, drop_of_length-le}
+use lib.Seq.{drop-cons}
 use Rattle.std.specs.List.{list_any}
 use Rattle.laws.proofs.Cases.{and_left, and_right, neither}
 use Rattle.refusals.specs.Numbers.{done, code_unknown, side_or_place_bad, network_bad, refuse}
@@ -35,6 +37,15 @@ in-range a =
 pub filled-by : (s : Slot) (a : Asked) → a ≡ asked_of s.fields → is_filled s ≡ is_algorithm a.algorithm && eqb (rights_refusal a) done
 unfolding is_filled
 filled-by s a e = sym (ap all_in_range e) ∙ in-range a
+
+-- the slots from i on are the slot at i and those after it
+pub bad-next : (table : List Slot) (i : ℕ) → i < length table → has_bad (drop i table) ≡ is_bad (get_or table i nil) || has_bad (drop (i + 1) table)
+unfolding has_bad
+bad-next table i h = rw (add-one, drop-cons table i nil h)
+
+pub bad-none : (table : List Slot) (i : ℕ) → length table ≤ i → has_bad (drop i table) ≡ false
+unfolding has_bad
+bad-none table i h = rw (drop_of_length-le table h)
 
 -- a table has a bad slot where one of its slots is bad
 pub has_bad-any : (table : List Slot) → has_bad table ≡ list_any is_bad table

@@ -9,7 +9,7 @@ ghost use Rattle.slot_calls.specs.Seen.{slot_as};
 use fields::{Asked, Fields};
 use refusals::Refusal;
 use slot_calls::{Found, move_refusal};
-use slot_puts::{clear_of, load_of, move_of, read_of};
+use slot_puts::{clear_of, load_of, read_of};
 use slots::Slot;
 
 // The slot of a number; an empty one for a number that is none.
@@ -55,7 +55,7 @@ pub fn move_slot(table: [Slot; 32], from: u64, to: u64, asked: u64) -> Result<[S
         to,
         asked,
     );
-    let slot = move_of(judged, slot_or_empty(table, from), asked)?;
+    let slot = slot_puts::carried(judged, slot_or_empty(table, from), asked)?;
     let carried = slots::with_slot(table, to, slot);
     Ok(slots::with_slot(carried, from, slots::empty_slot()))
 }

@@ -7,7 +7,7 @@ use Rattle.std.proofs.lemmas.Result.{err_from_is_err_and}
 use Rattle.fields.specs.declared.Fields.{Fields}
 use Rattle.slots.specs.declared.Slot.{Slot}
 use Rattle.slots.specs.Slots.{has_bad, keyless}
-use Rattle.slot_calls.specs.Answers.{Put}
+use Rattle.slot_calls.specs.declared.Put.{Put}
 use Rattle.slot_calls.specs.Calls.{cleared}
 use Rattle.slot_calls.specs.Seen.{clear_put, changed_by, slot_as}
 use Rattle.slot_calls.proofs.AsSeen.{slot-there}

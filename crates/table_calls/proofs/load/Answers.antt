@@ -8,7 +8,7 @@ use Rattle.fields.specs.declared.Asked.{Asked}
 use Rattle.fields.specs.declared.Fields.{Fields}
 use Rattle.slots.specs.declared.Slot.{Slot}
 use Rattle.slots.specs.Slots.{has_bad, keyless}
-use Rattle.slot_calls.specs.Answers.{Put}
+use Rattle.slot_calls.specs.declared.Put.{Put}
 use Rattle.slot_calls.specs.Calls.{loaded}
 use Rattle.slot_calls.specs.Seen.{load_put, changed_by, slot_as}
 use Rattle.slot_calls.proofs.AsSeen.{slot-there}

@@ -10,7 +10,7 @@ use Rattle.fields.specs.declared.Fields.{Fields}
 use Rattle.slots.specs.declared.Slot.{Slot}
 use Rattle.slots.specs.Slots.{has_bad, empty, keyless, slot_at}
 use Rattle.rights.specs.Rights.{stays_within}
-use Rattle.slot_calls.specs.Answers.{Put}
+use Rattle.slot_calls.specs.declared.Put.{Put}
 use Rattle.slot_calls.specs.Calls.{move_refusal_of, moved}
 use Rattle.slot_calls.specs.Seen.{slot_as, move_put, emptied_by, put_to, changed_by}
 use Rattle.slot_calls.proofs.AsSeen.{slot-there}
@@ -50,8 +50,8 @@ module _ (table : List Slot) (from to asked : ℕ) where
       ∙ move-put _ table from to asked _ _ (slot-there table from) (slot-there table to) (slot_as table from)
       (λ d. ap (λ (n : Bool). pick n (slot_at table from) empty) (passed judged (λ i. judged) d).from-numbered)
 
-pub move_of-requires : goal.move_of-requires
-move_of-requires c d =
+pub carried-requires : goal.carried-requires
+carried-requires c d =
     let a = c.args in
     let r = sees a.table a.from a.to a.asked _ _ _ _ c.table_is_bad.ensures c.fields_or_none.ensures c.fields_or_none-2.ensures c.move_refusal-judged.ensures in
     ap (λ (s : Slot). stays_within s.fields.usage a.asked) c.slot_or_empty.ensures ∙ (passed a.table a.from a.to a.asked _ r d).narrow
