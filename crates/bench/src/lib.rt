@@ -7,8 +7,9 @@ ghost use Rattle.span.specs.Span.{longest_buffer, longest_stream, written};
 ghost use Rattle.block_counts.specs.Counts.{blocks_used};
 ghost use Rattle.keystream.specs.Stream.{keystream};
 ghost use Rattle.bench.specs.Bench.{keyed_refusal, bench_refusal, bench_blocks, bench_answer};
-ghost use Rattle.ciphering.specs.Span.{ciphered_as, blocks_of, schedules_of, schedules_for};
+ghost use Rattle.ciphering.specs.Span.{ciphered_as, schedules_for};
 
+use ciphering::Report;
 use ciphering::lent::bytes_of;
 use ciphering::span_refusals::span_refusal;
 use ciphering::xor::cipher_from;
@@ -59,18 +60,26 @@ pub fn write_keystream(
     cipher_from(buf, Run { start: 0, n, skip }, algorithm, ck, iv)
 }
 
-// Writes keystream bits 0 to n - 1 from bit 0 of the buffer on, keeps its later bits, and answers with what was made.
+// Writes keystream bits 0 to n - 1 from bit 0 of the buffer on, keeps its later bits, and reports how many blocks were made.
 #[tactic(auto, using(crate::proofs::Passed::keyed_steps), unfolding(crate::specs::Bench::benched, crate::specs::Bench::bench_blocks))]
-pub fn bench(
-    algorithm: u64,
-    key: &[u8],
-    iv: &[u8],
-    buf: &mut [u8],
-    n: usize,
-) -> Result<Tally, Refusal>
-    ensures { (ciphered_as (number_of result) buf.new (blocks_of result) ≡ bench_answer algorithm key.now iv.now buf.old n)
-        × (schedules_of result ≡ schedules_for (bench_blocks algorithm key.now iv.now buf.old n)) }
+pub fn bench(algorithm: u64, key: &[u8], iv: &[u8], buf: &mut [u8], n: usize) -> Report
+    ensures { (ciphered_as result.refusal buf.new result.blocks
+        ≡ bench_answer algorithm key.now iv.now buf.old n)
+        × (result.schedules ≡ schedules_for (bench_blocks algorithm key.now iv.now buf.old n)) }
 {
-    bench_refusal(algorithm, key, iv, buf, n)?;
-    Ok(write_keystream(buf, n, 0, algorithm, bytes_of(key), bytes_of(iv)))
+    match bench_refusal(algorithm, key, iv, buf, n) {
+        Ok(()) => {
+            let made = write_keystream(buf, n, 0, algorithm, bytes_of(key), bytes_of(iv));
+            Report {
+                refusal: refusals::DONE,
+                blocks: made.blocks,
+                schedules: made.schedules,
+            }
+        }
+        Err(refusal) => Report {
+            refusal: refusal.number(),
+            blocks: 0,
+            schedules: 0,
+        },
+    }
 }

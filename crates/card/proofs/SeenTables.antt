@@ -14,7 +14,8 @@ use Rattle.fields.specs.declared.Asked.{Asked}
 use Rattle.fields.specs.Fields.{is_slot_number}
 use Rattle.fields.proofs.Ranges.{between-low, between-high}
 use Rattle.slots.specs.declared.Slot.{Slot}
-use Rattle.slot_calls.specs.Answers.{Put, Changed}
+use Rattle.slot_calls.specs.declared.Put.{Put}
+use Rattle.slot_calls.specs.Answers.{Changed}
 use Rattle.slots.specs.Slots.{has_bad, empty, keyless, nil, slot_at, with_slot}
 use Rattle.rights.specs.Rights.{stays_within}
 use Rattle.slot_calls.specs.Calls.{move_refusal_of, shown_of}
@@ -24,7 +25,7 @@ use Rattle.slot_calls.proofs.Alike.{Seen, seen}
 use Rattle.slot_calls.proofs.AsSeen.{Same, keyless-same, shown-seen}
 use Rattle.slot_calls.proofs.Puts.{load-put, move-put, clear-put}
 use Rattle.slot_calls.proofs.Passed.{MovePassedOf, load-passed-of, move-passed-of, clear-passed-of}
-use Rattle.plan.specs.Plan.{Plan}
+use Rattle.plan.specs.declared.Plan.{Plan}
 use Rattle.traffic.specs.Traffic.{traffic_refusal_of, traffic_after}
 use Rattle.traffic.proofs.Passed.{use-passed-of, traffic-passed-of}
 use Rattle.traffic.proofs.SeenTraffic.{traffic-seen}

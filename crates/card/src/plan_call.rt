@@ -3,6 +3,8 @@ ghost use Rattle.std.specs.Prelude.{◌≡◌};
 ghost use Rattle.plan.specs.Plan.{plan_of};
 ghost use Rattle.faces.specs.Faces.{planned_as, planned_out};
 
+use plan::Plan;
+
 // Leaves start, length and skip of the first piece and of the second in `pieces`; zeros where there is none, and on a refusal.
 #[unsafe(no_mangle)]
 pub extern "C" fn card_plan(
@@ -16,14 +18,7 @@ pub extern "C" fn card_plan(
 ) -> u8
     ensures { planned_as result pieces.new ≡ planned_out (plan_of kind state flag length address sdu) }
 {
-    match plan::plan_pdu(kind, state, flag, length, address, sdu) {
-        Ok(planned) => {
-            *pieces = faces::piece_numbers(planned);
-            0
-        }
-        Err(refusal) => {
-            *pieces = [0usize; 6];
-            refusal.number()
-        }
-    }
+    let p = Plan::from(plan::plan_pdu(kind, state, flag, length, address, sdu));
+    *pieces = faces::piece_numbers(p);
+    p.refusal
 }

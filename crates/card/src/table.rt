@@ -9,7 +9,7 @@ ghost use Rattle.card.specs.Table.{loaded_in, moved_in, cleared_in, shown_in, tr
 use faces::{load_from, pdu_from, plan_from, show_from, traffic_from};
 use refusals::{Refusal, number_of};
 use slot_calls::key_slot;
-use slot_list::{fields_in, is_no_table, put_slot, slot_in};
+use slot_list::{fields_in, is_no_table, slot_in, store};
 use slots::Slot;
 use traffic::traffic_refusal;
 
@@ -43,7 +43,7 @@ pub extern "C" fn card_load(
         mnc,
         key,
     );
-    number_of(put_slot(t, number, put))
+    number_of(store(t, number, put))
 }
 
 // Carries a slot where the move is not refused. The key is read where it is carried.
@@ -58,9 +58,10 @@ fn carry(t: &mut [Slot], from: u64, to: u64, asked: u64) -> Result<(), Refusal>
         to,
         asked,
     );
-    let put = slot_puts::move_of(judged, slot_in(t, key_slot(judged, from)), asked);
-    put_slot(t, to, put)?;
-    put_slot(t, from, slot_puts::emptied(put))
+    let slot = slot_in(t, key_slot(number_of(judged), from));
+    let put = slot_puts::carried(judged, slot, asked);
+    store(t, to, put)?;
+    store(t, from, slot_puts::emptied(put))
 }
 
 // Carries a filled slot to an empty one, with a use that lies within the present one.
@@ -77,7 +78,7 @@ pub extern "C" fn card_clear(t: &mut [Slot], number: u64) -> u8
     ensures { changed_as result t.new ≡ cleared_in t.old number }
 {
     let put = slot_puts::clear_of(is_no_table(t), fields_in(t, number), number);
-    number_of(put_slot(t, number, put))
+    number_of(store(t, number, put))
 }
 
 // Gives a filled slot's number and fields, without the key. A refusal gives 0 for each of them.
@@ -138,8 +139,9 @@ pub extern "C" fn card_traffic<'a>(
         n,
         skip,
     );
-    let slot = slot_in(t, key_slot(judged, number));
-    traffic_from(judged, slot, iv, buf, start, n, skip, blocks)
+    let refusal = number_of(judged);
+    let slot = slot_in(t, key_slot(refusal, number));
+    traffic_from(refusal, slot, iv, buf, start, n, skip, blocks)
 }
 
 // A whole PDU, from bit 0 of the buffer on: every piece of its plan is ciphered, or no bit changes. Its flag is read from its bit 12, counted from 1.
@@ -161,7 +163,7 @@ pub extern "C" fn card_pdu<'a>(
     ensures { ciphered_as result buf.new blocks.new
         ≡ whole_answer_in t.now direction number iv.now buf.old (pdu_as kind state length address sdu) }
 {
-    let judged = plan_from(
+    let p = plan_from(
         is_no_table(t),
         fields_in(t, number),
         direction,
@@ -174,6 +176,6 @@ pub extern "C" fn card_pdu<'a>(
         address,
         sdu,
     );
-    let slot = slot_in(t, whole::key_slot(judged, number));
-    pdu_from(judged, slot, iv, buf, blocks)
+    let slot = slot_in(t, whole::key_slot(p, number));
+    pdu_from(p, slot, iv, buf, blocks)
 }

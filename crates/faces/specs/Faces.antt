@@ -4,7 +4,7 @@ use Rattle.fields.specs.declared.Asked.{Asked}
 use Rattle.fields.specs.declared.Fields.{Fields}
 use Rattle.record_reader.specs.Record.{RecordRead}
 use Rattle.record_writer.specs.Written.{record_written, buffer_written}
-use Rattle.plan.specs.Plan.{Plan}
+use Rattle.plan.specs.declared.Plan.{Plan}
 use Rattle.slots.specs.declared.Slot.{Slot}
 use Rattle.slot_calls.specs.Answers.{Changed, Shown}
 use Rattle.whole.specs.declared.Pdu.{Pdu}

@@ -2,20 +2,18 @@
 #![tactic(auto)]
 
 ghost use Rattle.std.specs.Prelude.{◌≡◌};
-ghost use Rattle.refusals.specs.Refused.{number_of};
 ghost use Rattle.slots.specs.Slots.{keyless};
 ghost use Rattle.slot_calls.specs.Answers.{put_of};
 ghost use Rattle.slot_calls.specs.Calls.{shown_of};
 ghost use Rattle.slot_calls.specs.Seen.{load_put};
-ghost use Rattle.ciphering.specs.Span.{ciphered_as, blocks_of};
-ghost use Rattle.plan.specs.Plan.{with_pieces, plan_as};
+ghost use Rattle.ciphering.specs.Span.{ciphered_as};
 ghost use Rattle.traffic.specs.Traffic.{TrafficMay, traffic_after};
 ghost use Rattle.whole.specs.Whole.{judged_plan, WholeMay, whole_after};
 ghost use Rattle.faces.specs.Faces.{asking, pdu_as, shown_as, shown_numbers, piece_numbers};
 
+use ciphering::Report;
 use fields::{Asked, Fields};
-use keystream::Tally;
-use plan::Pieces;
+use plan::Plan;
 use refusals::Refusal;
 use slot_calls::Found;
 use slots::Slot;
@@ -77,28 +75,20 @@ pub fn shown_numbers(number: u64, f: Fields) -> [u64; 8]
 }
 
 // A plan's pieces, as its caller gets them.
-pub fn piece_numbers(p: Pieces) -> [usize; 6]
-    ensures { result ≡ piece_numbers (with_pieces p.first p.second) }
+pub fn piece_numbers(p: Plan) -> [usize; 6]
+    ensures { result ≡ piece_numbers p }
 {
     let a = p.first;
     let b = p.second;
     [a.start, a.length, a.skip, b.start, b.length, b.skip]
 }
 
-// What a call on a buffer made, as its caller gets it: 0 or the refusal's number, and the blocks, 0 where the call is refused.
-pub fn report(made: Result<Tally, Refusal>, blocks: &mut usize) -> u8
-    ensures { (result ≡ number_of made) × (blocks.new ≡ blocks_of made) }
+// What a call on a buffer reports, as its caller gets it.
+pub fn report(made: Report, blocks: &mut usize) -> u8
+    ensures { (result ≡ made.refusal) × (blocks.new ≡ made.blocks) }
 {
-    match made {
-        Ok(tally) => {
-            *blocks = tally.blocks;
-            0
-        }
-        Err(refusal) => {
-            *blocks = 0;
-            refusal.number()
-        }
-    }
+    *blocks = made.blocks;
+    made.refusal
 }
 
 // The calls on one slot, judged and done.
@@ -154,7 +144,7 @@ pub fn show_from<'a>(
 }
 
 pub fn traffic_from<'a>(
-    judged: Result<(), Refusal>,
+    refusal: u8,
     slot: Slot,
     iv: &'a [u8],
     buf: &'a mut [u8],
@@ -163,11 +153,11 @@ pub fn traffic_from<'a>(
     skip: usize,
     blocks: &'a mut usize,
 ) -> u8
-    requires { TrafficMay (number_of judged) iv.now buf.old start n skip }
+    requires { TrafficMay refusal iv.now buf.old start n skip }
     ensures { ciphered_as result buf.new blocks.new
-        ≡ traffic_after (number_of judged) slot iv.now buf.old start n skip }
+        ≡ traffic_after refusal slot iv.now buf.old start n skip }
 {
-    report(traffic_of(judged, slot, iv, buf, start, n, skip), blocks)
+    report(traffic_of(refusal, slot, iv, buf, start, n, skip), blocks)
 }
 
 pub fn plan_from(
@@ -182,8 +172,8 @@ pub fn plan_from(
     length: usize,
     address: usize,
     sdu: usize,
-) -> Result<Pieces, Refusal>
-    ensures { plan_as result ≡ judged_plan bad (keyless f) direction number iv.now buf.now (pdu_as kind state length address sdu) }
+) -> Plan
+    ensures { result ≡ judged_plan bad (keyless f) direction number iv.now buf.now (pdu_as kind state length address sdu) }
 {
     let pdu = Pdu {
         kind,
@@ -192,18 +182,18 @@ pub fn plan_from(
         address,
         sdu,
     };
-    judged_plan(bad, f, direction, number, iv, buf, pdu)
+    Plan::from(judged_plan(bad, f, direction, number, iv, buf, pdu))
 }
 
 pub fn pdu_from<'a>(
-    judged: Result<Pieces, Refusal>,
+    p: Plan,
     slot: Slot,
     iv: &'a [u8],
     buf: &'a mut [u8],
     blocks: &'a mut usize,
 ) -> u8
-    requires { WholeMay (plan_as judged) iv.now buf.old }
-    ensures { ciphered_as result buf.new blocks.new ≡ whole_after (plan_as judged) slot iv.now buf.old }
+    requires { WholeMay p iv.now buf.old }
+    ensures { ciphered_as result buf.new blocks.new ≡ whole_after p slot iv.now buf.old }
 {
-    report(whole_of(judged, slot, iv, buf), blocks)
+    report(whole_of(p, slot, iv, buf), blocks)
 }

@@ -9,7 +9,8 @@ use borrow.Author.Tests.{ltb-true, ltb-false, eqb-true, eqb-false, eq-eqb, ne_eq
 use Rattle.laws.proofs.Cases.{neither, pick-cases, pick-both, pick-else}
 use Rattle.refusals.specs.Numbers.{done}
 use Rattle.plan.specs.declared.Piece.{Piece}
-use Rattle.plan.specs.Plan.{Plan, sync_on_sch_s, longest_pdu, address_bits, no_piece, rest_from, address_from, by_case, clear_head, second_skip, keystream_bits, past_keystream, codes_unknown, parts_dont_fit, plan_refusal, refused_plan, planned_pieces, plan_of}
+use Rattle.plan.specs.declared.Plan.{Plan}
+use Rattle.plan.specs.Plan.{sync_on_sch_s, longest_pdu, address_bits, no_piece, rest_from, address_from, by_case, clear_head, second_skip, keystream_bits, past_keystream, codes_unknown, parts_dont_fit, plan_refusal, refused_plan, planned_pieces, plan_of}
 
 -- a piece of a buffer of l bits that traffic accepts: not empty, within the buffer, and within the keystream
 pub record Taken (l : ℕ) (p : Piece) : Type 0 where

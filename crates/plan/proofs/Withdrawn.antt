@@ -11,7 +11,8 @@ use Rattle.laws.specs.Choice.{pick}
 use Rattle.laws.proofs.Cases.{lt-or-le, eq-or-ne, neither, and_left, and_right}
 use Rattle.refusals.specs.Numbers.{done, pdu_code_unknown, pdu_parts_dont_fit, refuse}
 use Rattle.plan.specs.declared.Piece.{Piece}
-use Rattle.plan.specs.Plan.{Plan, sync_on_sch_s, longest_pdu, address_bits, no_piece, rest_from, address_from, by_case, clear_head, second_skip, keystream_bits, past_keystream, codes_unknown, parts_dont_fit, plan_refusal, with_pieces, refused_plan, planned_pieces, plan_of}
+use Rattle.plan.specs.declared.Plan.{Plan}
+use Rattle.plan.specs.Plan.{sync_on_sch_s, longest_pdu, address_bits, no_piece, rest_from, address_from, by_case, clear_head, second_skip, keystream_bits, past_keystream, codes_unknown, parts_dont_fit, plan_refusal, with_pieces, refused_plan, planned_pieces, plan_of}
 
 -- the old reading: n keystream bits are passed over, and the keystream's end is not looked at
 abbrev pub old_skip : ℕ → ℕ → ℕ

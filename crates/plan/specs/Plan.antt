@@ -8,12 +8,7 @@ use Rattle.refusals.specs.Refused.{number}
 use Rattle.refusals.specs.declared.Refusal.{Refusal}
 use Rattle.plan.specs.declared.Piece.{Piece}
 use Rattle.plan.specs.declared.Pieces.{Pieces}
-
--- a plan as its callers see it: the refusal's number, 0 where there is none, and the pieces
-pub record Plan : Type 0 where
-  pub refusal : ℕ
-  pub first : Piece
-  pub second : Piece
+use Rattle.plan.specs.declared.Plan.{Plan}
 
 -- kinds 1 and 3; kind 2, DMAC-SYNC on SCH/H, is the one between
 abbrev pub dmac_data : ℕ

@@ -4,7 +4,7 @@
 ghost use Rattle.std.specs.Prelude.{◌≡◌, ◌||◌, ◌+◌, ◌≤◌, ltb, eqb};
 ghost use Rattle.refusals.specs.Numbers.{done};
 ghost use Rattle.refusals.specs.Refused.{number_of};
-ghost use Rattle.plan.specs.Plan.{sync_on_sch_s, address_bits, rest_from, address_from, clear_head, second_skip, longest_pdu, no_piece, past_keystream, codes_unknown, parts_dont_fit, plan_refusal, with_pieces, plan_as, planned_pieces, plan_of};
+ghost use Rattle.plan.specs.Plan.{sync_on_sch_s, address_bits, rest_from, address_from, clear_head, second_skip, longest_pdu, no_piece, past_keystream, codes_unknown, parts_dont_fit, plan_refusal, with_pieces, refused_plan, plan_as, planned_pieces, plan_of};
 
 use refusals::Refusal;
 
@@ -35,11 +35,44 @@ pub struct Pieces {
     pub second: Piece,
 }
 
+// The same, or a refusal, as a caller gets it that judges no more: after a refusal there is no piece.
+#[derive(Clone, Copy)]
+pub struct Plan {
+    pub refusal: u8,
+    pub first: Piece,
+    pub second: Piece,
+}
+
 const NO_PIECE: Piece = Piece {
     start: 0,
     length: 0,
     skip: 0,
 };
+
+impl From<Result<Pieces, Refusal>> for Plan {
+    ghost from_gives = { λ planned p. p ≡ plan_as planned };
+
+    fn from(planned: Result<Pieces, Refusal>) -> Plan {
+        match planned {
+            Ok(pieces) => Plan {
+                refusal: refusals::DONE,
+                first: pieces.first,
+                second: pieces.second,
+            },
+            Err(refusal) => refused_plan(refusal.number()),
+        }
+    }
+}
+
+pub fn refused_plan(number: u8) -> Plan
+    ensures { result ≡ refused_plan number }
+{
+    Plan {
+        refusal: number,
+        first: NO_PIECE,
+        second: NO_PIECE,
+    }
+}
 
 // What a plan is made of. Length, address and sdu are bits.
 #[derive(Clone, Copy)]

@@ -11,7 +11,8 @@ use Rattle.slot_calls.specs.Calls.{move_refusal}
 use Rattle.writing.specs.Text.{ascii}
 use Rattle.record_reader.specs.Record.{RecordRead, record_read}
 use Rattle.record_writer.specs.Written.{record_written, buffer_written}
-use Rattle.plan.specs.Plan.{Plan, plan_of}
+use Rattle.plan.specs.declared.Plan.{Plan}
+use Rattle.plan.specs.Plan.{plan_of}
 
 -- what the definitions give, and what the document says
 pub record Row : Type 0 where

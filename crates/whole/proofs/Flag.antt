@@ -12,7 +12,8 @@ use Rattle.laws.proofs.Cases.{pick-cases, eq-or-ne}
 use Rattle.span.proofs.Within.{Binary, Beside}
 use Rattle.span.proofs.Laws.{xored-outside}
 use Rattle.plan.specs.declared.Piece.{Piece}
-use Rattle.plan.specs.Plan.{Plan, clear_head, rest_from, plan_refusal, planned_pieces, plan_of}
+use Rattle.plan.specs.declared.Plan.{Plan}
+use Rattle.plan.specs.Plan.{clear_head, rest_from, plan_refusal, planned_pieces, plan_of}
 use Rattle.plan.proofs.Flag.{flag-free}
 use Rattle.keystream.specs.Work.{through_run}
 use Rattle.whole.specs.declared.Pdu.{Pdu}

@@ -17,7 +17,8 @@ use Rattle.span.proofs.Laws.{Bytes, length-xored, xored-none, xored-bytes, xored
 use Rattle.span.proofs.Stream.{stream-lt}
 use Rattle.block_counts.proofs.Blocks.{UsedBlock, Enumerates, both-bound, both-counted}
 use Rattle.plan.specs.declared.Piece.{Piece}
-use Rattle.plan.specs.Plan.{Plan, no_piece}
+use Rattle.plan.specs.declared.Plan.{Plan}
+use Rattle.plan.specs.Plan.{no_piece}
 use Rattle.plan.proofs.Sound.{Taken, Sound, none, one, two, SoundPlan, plan-number, plan-sound}
 use Rattle.keystream.specs.Work.{through_run}
 use Rattle.ciphering.specs.Span.{span_refusal}

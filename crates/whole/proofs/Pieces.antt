@@ -12,7 +12,7 @@ use Rattle.span.specs.Span.{xored}
 use Rattle.span.proofs.Laws.{Bytes, xored-none, xored-same}
 use Rattle.block_counts.proofs.Blocks.{used-none, both-none, both-pos}
 use Rattle.plan.specs.declared.Piece.{Piece}
-use Rattle.plan.specs.Plan.{Plan}
+use Rattle.plan.specs.declared.Plan.{Plan}
 use Rattle.plan.proofs.Sound.{Taken, Sound, none, one, two}
 use Rattle.keystream.specs.Work.{Fits, Later}
 use Rattle.whole.specs.Whole.{run_of, has_no_piece, ciphered, plan_blocks}

@@ -12,7 +12,8 @@ use Rattle.slots.specs.declared.Slot.{Slot}
 use Rattle.slot_calls.specs.Calls.{slot_refusal_of}
 use Rattle.slot_calls.proofs.Alike.{same-fields, same-empty}
 use Rattle.slot_calls.proofs.AsSeen.{Same, unlooked}
-use Rattle.plan.specs.Plan.{Plan, plan_refusal, refused_plan}
+use Rattle.plan.specs.declared.Plan.{Plan}
+use Rattle.plan.specs.Plan.{plan_refusal, refused_plan}
 use Rattle.plan.proofs.Sound.{plan-number, plan-sound}
 use Rattle.traffic.specs.Traffic.{slot_stream, use_refusal_of}
 use Rattle.traffic.proofs.Passed.{use-passed-of}

@@ -8,7 +8,8 @@ use Rattle.refusals.specs.Numbers.{done, buffer_large, span_outside, refuse}
 use Rattle.slots.specs.declared.Slot.{Slot}
 use Rattle.slots.specs.Slots.{has_bad, slot_at}
 use Rattle.plan.specs.declared.Piece.{Piece}
-use Rattle.plan.specs.Plan.{Plan, plan_refusal, refused_plan, plan_of}
+use Rattle.plan.specs.declared.Plan.{Plan}
+use Rattle.plan.specs.Plan.{plan_refusal, refused_plan, plan_of}
 use Rattle.span.specs.Span.{longest_buffer}
 use Rattle.keystream.specs.declared.Run.{Run}
 use Rattle.keystream.specs.Work.{through_run, blocks_over, Fits, Later}

@@ -5,11 +5,11 @@ ghost use Rattle.std.specs.Prelude.{◌≡◌, length, not};
 ghost use Rattle.refusals.specs.Refused.{number_of};
 ghost use Rattle.slots.specs.Slots.{keyless};
 ghost use Rattle.slot_calls.specs.Seen.{key_slot};
-ghost use Rattle.plan.specs.Plan.{with_pieces, plan_as};
+ghost use Rattle.plan.specs.Plan.{plan_as};
 ghost use Rattle.whole.specs.Whole.{flag_of, room_refusal, open_refusal_of, whole_plan, has_no_piece, judged_plan};
 
 use fields::Fields;
-use plan::Pieces;
+use plan::{Pieces, Plan};
 use refusals::Refusal;
 use traffic::{bit_at, use_refusal};
 
@@ -88,18 +88,21 @@ pub fn judged_plan(
     plan_of(pdu, buf)
 }
 
-pub fn has_no_piece(pieces: Pieces) -> bool
-    ensures { result ≡ has_no_piece (with_pieces pieces.first pieces.second) }
+pub fn has_no_piece(p: Plan) -> bool
+    ensures { result ≡ has_no_piece p }
 {
-    pieces.first.length == 0 && pieces.second.length == 0
+    let first = p.first;
+    let second = p.second;
+    first.length == 0 && second.length == 0
 }
 
-// Whose key a call so judged reads: the slot's of its number, and no slot's after a refusal, nor where there is no piece.
-pub fn key_slot(judged: Result<Pieces, Refusal>, number: u64) -> u64
-    ensures { result ≡ key_slot (not (has_no_piece (plan_as judged))) number }
+// Whose key a call with this plan reads: the slot's of its number, and no slot's where there is no piece.
+pub fn key_slot(p: Plan, number: u64) -> u64
+    ensures { result ≡ key_slot (not (has_no_piece p)) number }
 {
-    match judged {
-        Ok(pieces) if !has_no_piece(pieces) => number,
-        _ => slot_calls::NO_SLOT,
+    if has_no_piece(p) {
+        slot_calls::NO_SLOT
+    } else {
+        number
     }
 }

@@ -2,18 +2,16 @@
 #![tactic(auto)]
 
 ghost use Rattle.std.specs.Prelude.{◌≡◌, ◌≤◌, length};
-ghost use Rattle.refusals.specs.Refused.{number_of};
 ghost use Rattle.span.specs.Span.{longest_buffer};
 ghost use Rattle.keystream.specs.Stream.{keystream};
 ghost use Rattle.keystream.specs.Work.{Fits, Later};
-ghost use Rattle.ciphering.specs.Span.{ciphered_as, blocks_of, schedules_of, schedules_for};
-ghost use Rattle.plan.specs.Plan.{with_pieces, plan_as};
-ghost use Rattle.whole.specs.Whole.{run_of, ciphered, plan_blocks, WholeMay, whole_after};
+ghost use Rattle.ciphering.specs.Span.{schedules_for, ciphered_as};
+ghost use Rattle.whole.specs.Whole.{run_from, run_of, ciphered, plan_blocks, WholeMay, whole_after};
 
+use ciphering::Report;
 use ciphering::lent::bytes_of;
 use keystream::{Run, Tally};
-use plan::{Piece, Pieces};
-use refusals::Refusal;
+use plan::{Piece, Plan};
 use slots::Slot;
 use whole::has_no_piece;
 
@@ -22,52 +20,52 @@ const NOTHING_MADE: Tally = Tally {
     blocks: 0,
 };
 
-// The bits of a piece and of the keystream. It is no `From`: neither type is of this crate.
-fn run_of(p: Piece) -> Run
-    ensures { result ≡ run_of p }
+// The bits of a piece, with the keystream's from `skip` on.
+fn run_of(p: Piece, skip: usize) -> Run
+    ensures { result ≡ run_from p skip }
 {
     Run {
         start: p.start,
         n: p.length,
-        skip: p.skip,
+        skip,
     }
 }
 
-// Each piece becomes itself xor its part of the keystream; every other bit stays. Where there is no piece, no schedule is filled.
-fn cipher_pieces(
-    buf: &mut [u8],
-    pieces: Pieces,
-    algorithm: u64,
-    key: [u8; 24],
-    iv: [u8; 10],
-) -> Tally
-    requires { (length buf.old ≤ longest_buffer) × Fits buf.old (run_of pieces.first) × Fits buf.old (run_of pieces.second) × Later (run_of pieces.first) (run_of pieces.second) }
-    ensures { (buf.new ≡ ciphered buf.old (keystream algorithm key iv) (with_pieces pieces.first pieces.second))
-        × (result.blocks ≡ plan_blocks (with_pieces pieces.first pieces.second))
-        × (result.schedules ≡ schedules_for (plan_blocks (with_pieces pieces.first pieces.second))) }
+// Each piece of a plan becomes itself xor its part of the keystream; every other bit stays. Where there is no piece, no schedule is filled.
+fn cipher_pieces(buf: &mut [u8], p: Plan, algorithm: u64, key: [u8; 24], iv: [u8; 10]) -> Tally
+    requires { (length buf.old ≤ longest_buffer) × Fits buf.old (run_of p.first) × Fits buf.old (run_of p.second) × Later (run_of p.first) (run_of p.second) }
+    ensures { (buf.new ≡ ciphered buf.old (keystream algorithm key iv) p)
+        × (result.blocks ≡ plan_blocks p)
+        × (result.schedules ≡ schedules_for (plan_blocks p)) }
 {
-    if has_no_piece(pieces) {
+    if has_no_piece(p) {
         return NOTHING_MADE;
     }
-    let first = run_of(pieces.first);
-    let second = run_of(pieces.second);
+    let first = run_of(p.first, p.first.skip);
+    let second = run_of(p.second, p.second.skip);
     keystream::xor_runs(buf, first, second, algorithm, key, iv)
 }
 
-// The work of a plan that was judged. Answers with what was made. Where there is no piece, the slot's key has no say.
-#[tactic(auto, using(refusals::proofs::Judged::judged_steps))]
-pub fn whole_of(
-    judged: Result<Pieces, Refusal>,
-    slot: Slot,
-    iv: &[u8],
-    buf: &mut [u8],
-) -> Result<Tally, Refusal>
-    requires { WholeMay (plan_as judged) iv.now buf.old }
-    ensures { (ciphered_as (number_of result) buf.new (blocks_of result) ≡ whole_after (plan_as judged) slot iv.now buf.old)
-        × (schedules_of result ≡ schedules_for (blocks_of result)) }
+// The work of a plan that was judged. Reports how many blocks were made. Where there is no piece, the slot's key has no say.
+pub fn whole_of(p: Plan, slot: Slot, iv: &[u8], buf: &mut [u8]) -> Report
+    requires { WholeMay p iv.now buf.old }
+    ensures { (ciphered_as result.refusal buf.new result.blocks ≡ whole_after p slot iv.now buf.old)
+        × (result.schedules ≡ schedules_for result.blocks) }
 {
-    let pieces = judged?;
+    let refusal = p.refusal;
+    if refusal != refusals::DONE {
+        return Report {
+            refusal,
+            blocks: 0,
+            schedules: 0,
+        };
+    }
     let f = slot.fields;
     let key = slot.key;
-    Ok(cipher_pieces(buf, pieces, f.algorithm as u64, key, bytes_of(iv)))
+    let made = cipher_pieces(buf, p, f.algorithm as u64, key, bytes_of(iv));
+    Report {
+        refusal,
+        blocks: made.blocks,
+        schedules: made.schedules,
+    }
 }

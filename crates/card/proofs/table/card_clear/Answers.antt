@@ -14,4 +14,4 @@ returns c =
     changed-is (cleared_in at.t.now at.number)
     (cleared-in at.t.now at.number (put_of c.clear_of-put.result)
     (c.clear_of-put.ensures ∙ (λ i. clear_put (c.is_no_table.ensures i) (keyless (c.fields_in.ensures i)) at.number))
-    c.number_of.result c.put_slot.new.t (c.number_of.ensures ∙ c.put_slot.ensures.answer, c.put_slot.ensures.after))
+    c.number_of.result c.store.new.t (c.number_of.ensures ∙ c.store.ensures.answer, c.store.ensures.after))

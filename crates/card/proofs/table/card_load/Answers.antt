@@ -16,4 +16,4 @@ returns c =
     changed-is (loaded_in at.t.now at.number asked at.key.now)
     (loaded-in at.t.now at.number asked at.key.now (put_of c.load_from-put.result)
     (c.load_from-put.ensures ∙ (λ i. load_put (c.is_no_table.ensures i) (keyless (c.fields_in.ensures i)) at.number asked at.key.now))
-    c.number_of.result c.put_slot.new.t (c.number_of.ensures ∙ c.put_slot.ensures.answer, c.put_slot.ensures.after))
+    c.number_of.result c.store.new.t (c.number_of.ensures ∙ c.store.ensures.answer, c.store.ensures.after))
