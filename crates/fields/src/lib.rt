@@ -3,7 +3,7 @@
 
 ghost use Rattle.std.specs.Prelude.{◌≡◌, true, ◌&&◌, leb};
 ghost use Rattle.refusals.specs.Refused.{number_of};
-ghost use Rattle.fields.specs.Fields.{between, is_slot_number, is_algorithm, out_of_service, is_use, rights_refusal, all_in_range, stored_of, asked_of};
+ghost use Rattle.fields.specs.Fields.{between, is_slot_number, is_algorithm, out_of_service, is_use, is_side, is_place, is_mcc, is_mnc, rights_refusal, all_in_range, stored_of, asked_of};
 
 use refusals::Refusal;
 
@@ -69,13 +69,34 @@ fn both_at_most(a: u64, most_a: u64, b: u64, most_b: u64) -> bool
     a <= most_a && b <= most_b
 }
 
+fn are_side_and_place(side: u64, place: u64) -> bool
+    ensures { result ≡ is_side side && is_place place }
+{
+    both_at_most(side, 1, place, 79)
+}
+
+fn is_network(mcc: u64, mnc: u64) -> bool
+    ensures { result ≡ is_mcc mcc && is_mnc mnc }
+{
+    both_at_most(mcc, 1023, mnc, 16383)
+}
+
+// The ranges alone, with no order of refusals: a call on a table asks this of each of its slots.
+// `&` joins each pair, so that the compiler makes a branch of each limit: with `&&` alone a call on a full table runs 160 instructions more.
+pub fn are_in_range(a: Asked) -> bool
+    ensures { result ≡ all_in_range a }
+{
+    (is_use(a.usage) & are_side_and_place(a.side, a.place))
+        && (is_algorithm(a.algorithm) & is_network(a.mcc, a.mnc))
+}
+
 // Refusals 10, 11 and 20, in this order.
 pub fn rights_refusal(a: Asked) -> Result<(), Refusal>
     ensures { number_of result ≡ rights_refusal a }
 {
     Refusal::CodeUnknown.when(!is_use(a.usage))?;
-    Refusal::SideOrPlaceBad.when(!both_at_most(a.side, 1, a.place, 79))?;
-    Refusal::NetworkBad.when(!both_at_most(a.mcc, 1023, a.mnc, 16383))
+    Refusal::SideOrPlaceBad.when(!are_side_and_place(a.side, a.place))?;
+    Refusal::NetworkBad.when(!is_network(a.mcc, a.mnc))
 }
 
 // The fields in a slot's own widths. No `TryFrom`: a number out of its range has a refusal of its own, which was given before.

@@ -2,9 +2,10 @@
 // asked for is copied with its key.
 #![tactic(auto)]
 
-ghost use Rattle.std.specs.Prelude.{◌≡◌, ◌<◌, IfSome, unwrap_or};
+ghost use Rattle.std.specs.Prelude.{◌≡◌, ◌<◌, length, IfSome, unwrap_or};
 ghost use Rattle.refusals.specs.Refused.{number_of};
 ghost use Rattle.slot_calls.specs.Answers.{put_of};
+ghost use Rattle.slots.specs.Slots.{has_bad};
 ghost use Rattle.slot_list.specs.List.{is_no_table, place_of, fields_in, slot_in, put_in};
 
 use fields::Fields;
@@ -12,13 +13,20 @@ use refusals::Refusal;
 use slot_calls::Put;
 use slots::Slot;
 
-// Whether the lent records are no table: there is another number of them than 32, or one is neither empty nor filled.
 // A key is read only where every field of its slot is zero: so no key of a filled slot is left behind by the test. Most slots are filled, or their
 // algorithm is none: so that is asked first.
+fn has_bad(t: &[Slot]) -> bool
+    requires { length t.now ≡ 32 }
+    ensures { result ≡ has_bad t.now }
+{
+    t.iter().any(|slot| !slots::are_filled(slot.fields) && !slots::is_empty(*slot))
+}
+
+// Whether the lent records are no table: there is another number of them than 32, or one is neither empty nor filled.
 pub fn is_no_table(t: &[Slot]) -> bool
     ensures { result ≡ is_no_table t.now }
 {
-    t.len() != 32 || t.iter().any(|slot| !slots::are_filled(slot.fields) && !slots::is_empty(*slot))
+    t.len() != 32 || has_bad(t)
 }
 
 // Where the slot of a number stands among this many records.

@@ -71,12 +71,11 @@ pub fn is_empty(slot: Slot) -> bool
     is_no_fields(slot.fields) && all_zero(slot.key)
 }
 
-// The algorithm is asked last: with it first the compiler tests two bytes at once, and a call on a full table takes 45 ns more.
+#[tactic(auto, unfolding(crate::specs::Slots::is_filled))]
 pub fn are_filled(f: Fields) -> bool
     ensures { result ≡ is_filled (keyless f) }
 {
-    let asked = Asked::from(f);
-    fields::rights_refusal(asked).is_ok() && fields::is_algorithm(asked.algorithm)
+    fields::are_in_range(Asked::from(f))
 }
 
 #[tactic(auto, unfolding(crate::specs::Slots::is_filled))]
