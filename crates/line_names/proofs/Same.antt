@@ -1,13 +1,15 @@
 -- Texts that are the same byte by byte, and the number of a name. Assumes nothing.
-use mathlib.Core.Path.{◌≡◌, refl, ap}
+use mathlib.Core.Path.{◌≡◌, refl, ap, ◌∙◌}
 use mathlib.Core.Bool.{Bool, true, false, cond, ◌&&◌}
 use mathlib.Core.List.{List, [], ◌∷◌}
 use Prim.Native.Nat.{ℕ, zero, suc, ◌+◌, ◌≤◌}
 use native.Mathlib.Omega.{arith}
 use lib.Dec.{eqb}
 use lib.Pointwise.{pointwise}
-use Rattle.std.specs.Prelude.{Option, Some}
+use Rattle.std.specs.Prelude.{Option, None, Some, MatchOption}
 use Rattle.std.specs.List.{find}
+use Rattle.std.specs.Slice.{IsItemAt}
+use Rattle.std.proofs.Common.{Bor}
 use Rattle.laws.specs.Choice.{pick}
 use Rattle.line_names.specs.declared.Name.{Name}
 use Rattle.line_names.specs.declared.Name.TheVariants.{Form, Number, Version, Alg, Use, Side, Place, Mcc, Mnc, Key}
@@ -29,10 +31,12 @@ step {t} {u} {n} k r e h = rw e (go u)
     go true = refl
     go false = h
 
+-- the ten names, by their numbers
+abbrev names : List Name
+names = Form ∷ Number ∷ Version ∷ Alg ∷ Use ∷ Side ∷ Place ∷ Mcc ∷ Mnc ∷ Key ∷ []
+
 -- the first of the ten that is written so
-pub number-first : (name : List ℕ)
-    → number_found (find (λ (k : Name). pointwise eqb name (name_text (number_of k))) (Form ∷ Number ∷ Version ∷ Alg ∷ Use ∷ Side ∷ Place ∷ Mcc ∷ Mnc ∷ Key ∷ []))
-    ≡ name_number name
+pub number-first : (name : List ℕ) → number_found (find (λ (k : Name). pointwise eqb name (name_text (number_of k))) names) ≡ name_number name
 unfolding name_number number_from
 number-first name =
     let e = λ (k : ℕ). same-text name (name_text k) in
@@ -55,3 +59,28 @@ from-number k (suc n) name = go (same_text name (name_text k)) (from-number (k +
 pub number-most : (name : List ℕ) → name_number name ≤ name_count
 unfolding name_number
 number-most name = from-number 0 name_count name
+
+-- the name at a place among the ten has that number
+number-at : (k : ℕ) (name : Bor Name) → IsItemAt names k (Some name) → number_of name.now ≡ k
+number-at zero name h = ap number_of (h.3.1 Form)
+number-at (suc zero) name h = ap number_of (h.3.1 Form)
+number-at (suc (suc zero)) name h = ap number_of (h.3.1 Form)
+number-at (suc (suc (suc zero))) name h = ap number_of (h.3.1 Form)
+number-at (suc (suc (suc (suc zero)))) name h = ap number_of (h.3.1 Form)
+number-at (suc (suc (suc (suc (suc zero))))) name h = ap number_of (h.3.1 Form)
+number-at (suc (suc (suc (suc (suc (suc zero)))))) name h = ap number_of (h.3.1 Form)
+number-at (suc (suc (suc (suc (suc (suc (suc zero))))))) name h = ap number_of (h.3.1 Form)
+number-at (suc (suc (suc (suc (suc (suc (suc (suc zero)))))))) name h = ap number_of (h.3.1 Form)
+number-at (suc (suc (suc (suc (suc (suc (suc (suc (suc zero))))))))) name h = ap number_of (h.3.1 Form)
+number-at (suc (suc (suc (suc (suc (suc (suc (suc (suc (suc k)))))))))) name h = absurd (omega (arith, h.3.0))
+
+-- what is asked of the name of a number is asked of the number
+pub by_number : (rule : ℕ → Bool) (k : ℕ) (t : Bool) (A : Type 0) (P : Bor Name → Type 0)
+    → (A → name_count ≤ k → t ≡ rule k)
+    → ((name : Bor Name) → P name → t ≡ rule (number_of name.now))
+    → (r : Option (Bor Name))
+    → IsItemAt names k r
+    → MatchOption r A P
+    → t ≡ rule k
+by_number rule k t A P f g None h m = f m h.3
+by_number rule k t A P f g (Some name) h m = g name m ∙ ap rule (number-at k name h)

@@ -96,3 +96,17 @@ pub fn place_of(line: &[u8]) -> usize
 {
     name_of(line).map_or(NAMES.len(), |name| name as usize)
 }
+
+// Is the value under a name a decimal number, by the name's number? It is under every name that no record has.
+pub fn is_decimal(k: usize) -> bool
+    ensures { result ≡ is_decimal k }
+{
+    NAMES.get(k).is_none_or(|name| name.is_decimal())
+}
+
+// Does a form have a name, by the name's number? A name that no record has, neither form has.
+pub fn has_name(two: bool, k: usize) -> bool
+    ensures { result ≡ has_name two k }
+{
+    NAMES.get(k).is_some_and(|name| name.is_in(two))
+}
