@@ -19,12 +19,21 @@ pub fn are_bytes(s: &[u8]) -> bool
     !s.is_empty() && s.len() % 2 == 0 && all_hex(s)
 }
 
+// The value of a digit. It has one, so that the 0 stands for no answer: it leaves no branch that could fail, and a loop
+// over digits takes many at once.
+fn value_of(c: u8) -> u8
+    requires { is_hex c ≡ true }
+    ensures { result ≡ hex_value c }
+{
+    hex_value(c).unwrap_or(0)
+}
+
 // The byte of two digits.
 fn byte_of(high: u8, low: u8) -> u8
     requires { (is_hex high ≡ true) × (is_hex low ≡ true) }
     ensures { result ≡ hex_value high * 16 + hex_value low }
 {
-    hex_value(high).unwrap() * 16 + hex_value(low).unwrap()
+    value_of(high) * 16 + value_of(low)
 }
 
 // The bytes of a text, into a buffer of as many.

@@ -1,17 +1,14 @@
--- `bytes::byte_of`: each digit has its value. Assumes nothing.
-use Rattle.std.proofs.Common.{◌∙◌, ◌*◌, ◌+◌, sym, ap}
-use Rattle.std.specs.Option.{is_some, unwrap_or}
-use Rattle.line_values.proofs.Hexes.{value-is}
+-- `bytes::byte_of`: each digit has its value, which is below 16. Assumes nothing.
+use Rattle.std.proofs.Common.{◌*◌, ◌+◌, arith}
+use Rattle.forms.proofs.Hexes.{value-small}
 use Rattle.line_values.proofs.bytes.byte_of.Goals as goal
 
-pub unwrap-requires : goal.unwrap-requires
-unwrap-requires c = ap is_some (value-is _ _ c.hex_value.ensures.value c.requires.0)
+pub overflow_mul-result : goal.overflow_mul-result
+overflow_mul-result c = record { fits = omega (arith, c.value_of.ensures, value-small _ c.requires.0) }
 
-pub unwrap-requires-2 : goal.unwrap-requires-2
-unwrap-requires-2 c = ap is_some (value-is _ _ c.hex_value-2.ensures.value c.requires.1)
+pub overflow_add-result : goal.overflow_add-result
+overflow_add-result c =
+    record { fits = omega (arith, c.value_of.ensures, c.value_of-2.ensures, value-small _ c.requires.0, value-small _ c.requires.1) }
 
 pub returns : goal.returns
-returns c =
-    let high = sym c.unwrap.ensures ∙ value-is _ _ c.hex_value.ensures.value c.requires.0 in
-    let low = sym c.unwrap-2.ensures ∙ value-is _ _ c.hex_value-2.ensures.value c.requires.1 in
-    λ i. unwrap_or (high i) 0 * 16 + unwrap_or (low i) 0
+returns c = λ i. c.value_of.ensures i * 16 + c.value_of-2.ensures i
