@@ -62,6 +62,7 @@ fn row_at(figures: &[u64], row: usize) -> Row
 }
 
 // Two numbers, of which the second ends the line.
+#[inline(always)]
 fn put_pair<'a>(
     buffer: &'a mut [u8],
     at: usize,
