@@ -2,7 +2,7 @@
 #![tactic(auto)]
 
 ghost use Rattle.std.specs.Prelude.{◌≡◌, eqb};
-ghost use Rattle.line_names.specs.Names.{name_text, number_in, is_decimal, has_name, number_of, number_found};
+ghost use Rattle.line_names.specs.Names.{name_text, same_text, number_in, is_decimal, has_name, number_of, number_found};
 
 use line_parts::name_in;
 
@@ -55,6 +55,13 @@ impl Name {
         }
     }
 
+    // Is a text the name?
+    fn is_written(self, text: &[u8]) -> bool
+        ensures { result ≡ same_text text.now (name_text (number_of self)) }
+    {
+        same_text(text, self.text())
+    }
+
     // Is the value under the name a decimal number?
     #[tactic(auto, unfolding(crate::specs::Names::is_decimal))]
     pub fn is_decimal(self) -> bool
@@ -75,12 +82,60 @@ impl Name {
     }
 }
 
-// The name of a line, where a record has it.
+// Are two texts the same? Byte by byte, so that a text of known bytes costs as many tests and no call.
+fn same_text<'a>(s: &'a [u8], t: &'a [u8]) -> bool
+    ensures { result ≡ same_text s.now t.now }
+{
+    if s.len() != t.len() {
+        return false;
+    }
+    let mut i = 0;
+    while i < s.len() {
+        if s[i] != t[i] {
+            return false;
+        }
+        i += 1;
+    }
+    true
+}
+
+// The name of a line, where a record has it. Each name is tested by itself and not by a search, so that the length of the line's name
+// tells at once which can still be meant.
 pub fn name_of(line: &[u8]) -> Option<Name>
     ensures { number_found result ≡ number_in line.now }
 {
     let name = name_in(line);
-    NAMES.iter().copied().find(|known| name == known.text())
+    if Name::Form.is_written(name) {
+        return Some(Name::Form);
+    }
+    if Name::Number.is_written(name) {
+        return Some(Name::Number);
+    }
+    if Name::Version.is_written(name) {
+        return Some(Name::Version);
+    }
+    if Name::Alg.is_written(name) {
+        return Some(Name::Alg);
+    }
+    if Name::Use.is_written(name) {
+        return Some(Name::Use);
+    }
+    if Name::Side.is_written(name) {
+        return Some(Name::Side);
+    }
+    if Name::Place.is_written(name) {
+        return Some(Name::Place);
+    }
+    if Name::Mcc.is_written(name) {
+        return Some(Name::Mcc);
+    }
+    if Name::Mnc.is_written(name) {
+        return Some(Name::Mnc);
+    }
+    if Name::Key.is_written(name) {
+        return Some(Name::Key);
+    }
+    None
 }
 
 // Has a line this name, or none at `None`?
