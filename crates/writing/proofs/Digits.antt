@@ -6,8 +6,6 @@ use Prim.Native.Nat.{ℕ, zero, suc, ◌+◌, ◌*◌, ◌≤◌, ◌<◌, ◌/�
 use Prim.Native.String.{String}
 use native.Mathlib.Nat.{pow-suc}
 use native.Mathlib.Omega.{arith}
-use Rattle.std.proofs.Common.{Option, None, Some}
-use Rattle.std.specs.Option.{IfNone, IfSome, unwrap_or}
 use lib.ListN.{length, length-append}
 use borrow.Author.Tests.{lt-ltb, le-ltb}
 use Rattle.laws.proofs.Cases.{lt-or-le}
@@ -52,6 +50,13 @@ length-ten n h = ap length (digits-ten n h) ∙ length-append (digits (n / 10)) 
 pub length_some : (n : ℕ) → 0 < length (digits n)
 length_some n = ⊎_elim (λ h. omega (arith, length-one n h)) (λ h. omega (arith, length-ten n h)) (lt-or-le n 10)
 
+-- and the other way round: of one digit it is below ten, of more it is not
+pub one-digit : (n : ℕ) → length (digits n) ≤ 1 → n < 10
+one-digit n h = ⊎_elim (λ l. l) (λ l. absurd (omega (arith, length-ten n l, length_some (n / 10)))) (lt-or-le n 10)
+
+pub more-digits : (n : ℕ) → 1 < length (digits n) → 10 ≤ n
+more-digits n h = ⊎_elim (λ l. absurd (omega (arith, length-one n l))) (λ l. l) (lt-or-le n 10)
+
 -- a number below ten to the power k + 1 has at most k + 1 digits
 pub digits-fit : (k n : ℕ) → n < 10 ^ suc k → length (digits n) ≤ suc k
 digits-fit zero n h = omega (arith, length-one n h)
@@ -73,10 +78,8 @@ digits-some (suc k) n h =
     ⊎_elim (λ l. absurd (omega (arith, ten-power k))) (λ l. omega (arith, length-ten n l, digits-some k (n / 10) (omega arith))) (lt-or-le n 10)
 
 -- counted by the logarithm
-pub digits-counted : (n : ℕ) (log : Option ℕ) → IfNone log (n ≡ 0) → IfSome log (λ k. 10 ^ k ≤ n) → IfSome log (λ k. n < 10 * 10 ^ k)
-    → unwrap_or log 0 + 1 ≡ length (digits n)
-digits-counted n None z h l = omega (arith, length-one n (omega arith))
-digits-counted n (Some k) z h l = omega (arith, digits-some k n h, digits-fit k n (omega (arith, pow-suc 10 k)))
+pub digits-counted : (k n : ℕ) → 10 ^ k ≤ n → n < 10 * 10 ^ k → k + 1 ≡ length (digits n)
+digits-counted k n h l = omega (arith, digits-some k n h, digits-fit k n (omega (arith, pow-suc 10 k)))
 
 pub item-length : (name : String) (value rest : List ℕ) → length (item name value ++ rest) ≡ length (ascii name) + (length value + length rest)
 item-length name value rest = omega (arith, length-append (item name value) rest, length-append (ascii name) value)

@@ -1,16 +1,14 @@
 -- Texts put into a buffer one after the other. Assumes nothing.
 use mathlib.Core.Path.{◌≡◌, refl, sym, ap, subst, ◌∙◌}
-use mathlib.Core.Logic.{⊎_elim}
 use mathlib.Core.List.{List, [], ◌∷◌, ◌++◌, append_assoc}
-use Prim.Native.Nat.{ℕ, suc, ◌+◌, ◌-◌, ◌*◌, ◌≤◌, ◌<◌, ◌/◌, ◌%◌}
+use Prim.Native.Nat.{ℕ, suc, ◌+◌, ◌*◌, ◌≤◌, ◌<◌, ◌/◌, ◌%◌}
 use native.Mathlib.Numerals.{add-one}
 use native.Mathlib.Omega.{arith}
 use lib.ListN.{length, get_or, take, drop, set, drop_of_length-le, length-append}
 use lib.Seq.{drop-cons, take-suc, take_all, length-take-le, sets, length-sets, set_comm}
-use Rattle.laws.proofs.Cases.{lt-or-le}
 use Rattle.writing.specs.Text.{digits, hex_digit, hex_text}
 use Rattle.writing.specs.Writing.{Room, Put}
-use Rattle.writing.proofs.Digits.{digits-one, digits-ten, length-one, length-ten}
+use Rattle.writing.proofs.Digits.{digits-one, digits-ten}
 
 -- of a text t, i bytes are put
 module _ (b : List ℕ) (at : ℕ) (t : List ℕ) (i : ℕ) where
@@ -67,32 +65,15 @@ set_after b at (x ∷ s) i v h =
     set_after (set b at x) (suc at) s i v (omega arith)
     ∙ ap (λ (l : List ℕ). sets l (suc at) s) (set_comm b at i x v (λ e. let z : at ≡ i = e in omega arith))
 
-put-digit : (b : List ℕ) (at n i : ℕ) → 10 ≤ n → i ≡ at + length (digits (n / 10))
+pub put_last : (b : List ℕ) (at n : ℕ) → n < 10 → sets b at (digits n) ≡ set b at (48 + n)
+put_last b at n h = ap (sets b at) (digits-one n h)
+
+pub put-digit : (b : List ℕ) (at n i : ℕ) → 10 ≤ n → i ≡ at + length (digits (n / 10))
     → sets b at (digits n) ≡ sets (set b i (48 + n % 10)) at (digits (n / 10))
 put-digit b at n i h e =
     ap (sets b at) (digits-ten n h) ∙ sets-append b at (digits (n / 10)) ((48 + n % 10) ∷ [])
     ∙ ap (λ (k : ℕ). set (sets b at (digits (n / 10))) k (48 + n % 10)) (sym e)
     ∙ set_after b at (digits (n / 10)) i (48 + n % 10) (omega arith)
-
--- the digits of n end at the place i: before the last of them, those of n / 10 end
-module _ (b : List ℕ) (at n i : ℕ) (e : at + length (digits n) ≡ i) where
-  pub digits-before : at < i - 1 → at + length (digits (n / 10)) ≡ i - 1
-  digits-before h = ⊎_elim (λ l. absurd (omega (arith, length-one n l))) (λ l. omega (arith, length-ten n l)) (lt-or-le n 10)
-
-  pub digits-last : sets b at (take (i - at) (digits n)) ≡ sets (set b (i - 1) (48 + n % 10)) at (take (i - 1 - at) (digits (n / 10)))
-  digits-last = ap (sets b at) (take_all (i - at) (digits n) (omega arith)) ∙ ⊎_elim one ten (lt-or-le n 10)
-    where
-      one : n < 10 → sets b at (digits n) ≡ sets (set b (i - 1) (48 + n % 10)) at (take (i - 1 - at) (digits (n / 10)))
-      one l =
-          let z : at ≡ i - 1 = omega (arith, length-one n l) in
-          let y : 0 ≡ i - 1 - at = omega arith in
-          let m : n ≡ n % 10 = omega arith in
-          ap (sets b at) (digits-one n l) ∙ (λ k. sets (set b (z k) (48 + m k)) at (take (y k) (digits (n / 10))))
-
-      ten : 10 ≤ n → sets b at (digits n) ≡ sets (set b (i - 1) (48 + n % 10)) at (take (i - 1 - at) (digits (n / 10)))
-      ten l =
-          let size : i - 1 ≡ at + length (digits (n / 10)) = omega (arith, length-ten n l) in
-          put-digit b at n (i - 1) l size ∙ ap (sets (set b (i - 1) (48 + n % 10)) at) (sym (take_all (i - 1 - at) (digits (n / 10)) (omega arith)))
 
 -- hex digits
 

@@ -10,8 +10,11 @@ pub fn put_bytes<'a>(buffer: &'a mut [u8], at: usize, bytes: &'a [u8]) -> usize
     requires { Room buffer.old at bytes.now }
     ensures { Put buffer.old at bytes.now buffer.new result }
 {
-    let end = at + bytes.len();
-    buffer[at..end].copy_from_slice(bytes);
+    let mut end = at;
+    for &b in bytes {
+        buffer[end] = b;
+        end += 1;
+    }
     end
 }
 
@@ -19,7 +22,10 @@ pub fn put_bytes<'a>(buffer: &'a mut [u8], at: usize, bytes: &'a [u8]) -> usize
 pub fn digit_count(n: u64) -> usize
     ensures { result ≡ length (digits n) }
 {
-    n.checked_ilog10().unwrap_or(0) as usize + 1
+    if n < 10 {
+        return 1;
+    }
+    n.ilog10() as usize + 1
 }
 
 // The digits of a number, the last one first.
@@ -29,10 +35,11 @@ pub fn put_digits(buffer: &mut [u8], at: usize, n: u64) -> usize
 {
     let end = at + digit_count(n);
     let mut left = n;
-    for i in (at..end).rev() {
+    for i in (at + 1..end).rev() {
         buffer[i] = b'0' + (left % 10) as u8;
         left /= 10;
     }
+    buffer[at] = b'0' + left as u8;
     end
 }
 
@@ -95,7 +102,9 @@ fn put_byte(buffer: &mut [u8], at: usize, b: u8) -> usize
     requires { Room buffer.old at (hex_text (b ∷ [])) }
     ensures { Put buffer.old at (hex_text (b ∷ [])) buffer.new result }
 {
-    put_bytes(buffer, at, &[hex_digit(b / 16), hex_digit(b % 16)])
+    buffer[at] = hex_digit(b / 16);
+    buffer[at + 1] = hex_digit(b % 16);
+    at + 2
 }
 
 // Bytes by two hex digits each.
