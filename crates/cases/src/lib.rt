@@ -4,16 +4,25 @@
 mod answer;
 
 ghost use Rattle.std.specs.Prelude.{◌≡◌, ◌≤◌, length};
+ghost use Rattle.writing.specs.Text.{lf};
 ghost use Rattle.writing.specs.Writing.{Put};
+ghost use Rattle.lines.specs.Line.{piece_length};
 ghost use Rattle.cases.specs.Answer.{case_text, answer_text, answer_room};
 
 use answer::put_accepted;
 use case_reader::{case_refusal, is_readable};
-use lines::index_of;
+use lines::{index_of, piece_length};
 use writing::{put_bytes, put_line};
 
 // Every answer fits a buffer of this many bytes.
 pub const ROOM: usize = 16532;
+
+// How many bytes the first line of a text takes, with its LF. A last line may lack it.
+pub fn line_length(s: &[u8]) -> usize
+    ensures { result ≡ piece_length lf s.now }
+{
+    piece_length(s, b'\n')
+}
 
 // The answer to a line without its LF.
 fn put_case(out: &mut [u8], line: &[u8]) -> usize
