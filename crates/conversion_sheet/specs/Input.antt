@@ -5,7 +5,8 @@ use Rattle.laws.specs.Choice.{pick}
 use Rattle.writing.specs.Text.{ascii, lf}
 use Rattle.forms.specs.Form.{literal, line}
 use Rattle.forms.specs.Decimals.{may_begin, may_follow, decimal}
-use Rattle.reading.specs.Reading.{Reading, good_to, wrong_at, onward, answer}
+use Rattle.reading.specs.declared.Reading.{Reading}
+use Rattle.reading.specs.Reading.{good_to, wrong_at, onward, answer}
 use Rattle.conversion_sheet.specs.declared.input.Named.{Named}
 
 abbrev pub blank : ℕ

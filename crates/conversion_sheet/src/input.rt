@@ -4,7 +4,7 @@ ghost use Rattle.reading.specs.Reading.{reading_of};
 ghost use Rattle.conversion_sheet.specs.Input.{text_size, first_text, behind, spaced_number, before_read, named_by, line_size, pair_numbers};
 
 use arrayvec::ArrayVec;
-use reading::{Found, Reading, WrongAt, may_begin, may_follow, read_line, read_literal};
+use reading::{Found, ReadTo, WrongAt, may_begin, may_follow, read_line, read_literal};
 
 // How many bytes stand before the first empty line.
 fn text_size(s: &[u8]) -> usize
@@ -38,7 +38,7 @@ fn byte_at(s: &[u8], at: usize) -> u8
 }
 
 // A number of a record with a space behind it, of its first three bytes; the place is that behind it in a line.
-fn spaced_number(b: u8, c: u8, d: u8) -> Reading
+fn spaced_number(b: u8, c: u8, d: u8) -> ReadTo
     ensures { reading_of result ≡ spaced_number b c d }
 {
     if !may_begin(1, 32, b) {
@@ -61,7 +61,7 @@ fn spaced_number(b: u8, c: u8, d: u8) -> Reading
 }
 
 // `before=B` and a space, at the front of a text.
-fn read_before(s: &[u8]) -> Reading
+fn read_before(s: &[u8]) -> ReadTo
     ensures { reading_of result ≡ before_read s.now }
 {
     let front = Ok(Found { value: 0, place: 0 });

@@ -5,10 +5,9 @@ mod input;
 
 ghost use Rattle.std.specs.Prelude.{◌≡◌, ◌+◌, ◌^◌, ◌<◌, ◌≤◌, IfErr, IfSome, length};
 ghost use Rattle.writing.specs.Writing.{Put};
-ghost use Rattle.conversion_sheet.specs.Report.{conversion_report, report_room};
+ghost use Rattle.conversion_sheet.specs.Report.{conversion_report, report_room, report_of};
 ghost use Rattle.conversion_sheet.specs.Answers.{report_text};
 
-use arrayvec::ArrayVec;
 use conversion::{Refused, check};
 use conversion_pairs::pair_count;
 use input::{read_pairs, split_text};
@@ -17,6 +16,13 @@ use writing::{put_item, put_line};
 
 // Every report fits so many bytes.
 pub const ROOM: usize = 64;
+
+// A text and its length; the bytes behind it are zeros.
+#[derive(Clone, Copy)]
+pub struct Report {
+    pub length: usize,
+    pub text: [u8; ROOM],
+}
 
 // The longest input that is looked at: no good one is as long.
 pub const LONGEST_INPUT: usize = 16384;
@@ -51,12 +57,10 @@ fn put_report(input: &[u8], buffer: &mut [u8; ROOM]) -> usize
 }
 
 // The whole report.
-pub fn report_on(input: &[u8]) -> ArrayVec<u8, ROOM>
-    ensures { result.items ≡ conversion_report input.now }
+pub fn report_on(input: &[u8]) -> Report
+    ensures { result ≡ report_of (conversion_report input.now) }
 {
     let mut text = [0u8; ROOM];
     let length = put_report(input, &mut text);
-    let mut report = ArrayVec::from(text);
-    report.truncate(length);
-    report
+    Report { length, text }
 }

@@ -9,5 +9,5 @@ fn main(rt: HostRuntime) -> io::Result<()> {
     let mut input = [0u8; 16385];
     let n = filling::read_full(&mut rt.stdin(), &mut input)?;
     let report = conversion_sheet::report_on(&input[..n]);
-    rt.stdout().write_all(&report)
+    rt.stdout().write_all(&report.text[..report.length])
 }

@@ -5,7 +5,7 @@ ghost use Rattle.std.specs.Prelude.{◌≡◌, ◌<◌, IfSome, unwrap_or};
 ghost use Rattle.forms.specs.Hexes.{hex_or, half_byte, byte};
 ghost use Rattle.reading.specs.Reading.{onward, answer, reading_of};
 
-use reading::{Found, Reading, WrongAt};
+use reading::{Found, ReadTo, WrongAt};
 
 // The value of a lower-case hex digit.
 #[tactic(auto, unfolding(forms::specs::Hexes::hex_or, forms::specs::Hexes::is_hex, forms::specs::Hexes::hex_value))]
@@ -21,7 +21,7 @@ pub fn hex_value(c: u8) -> Option<u8>
 }
 
 // One hex digit.
-fn read_half(s: &[u8], before: Reading) -> Reading
+fn read_half(s: &[u8], before: ReadTo) -> ReadTo
     ensures { reading_of result ≡ answer (onward (reading_of before) half_byte s.now) }
 {
     let place = before?.place;
@@ -38,7 +38,7 @@ fn read_half(s: &[u8], before: Reading) -> Reading
 }
 
 // A byte by two hex digits.
-pub fn read_byte(s: &[u8], before: Reading) -> Reading
+pub fn read_byte(s: &[u8], before: ReadTo) -> ReadTo
     ensures { reading_of result ≡ answer (onward (reading_of before) byte s.now) }
 {
     let high = read_half(s, before)?;

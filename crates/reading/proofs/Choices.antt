@@ -10,7 +10,8 @@ use borrow.Author.Tests.{lt-ltb, le-ltb}
 use Rattle.laws.specs.Choice.{pick}
 use Rattle.forms.specs.Form.{Form, done, next, Outcome, found, wrong, stands, read_at, either}
 use Rattle.forms.specs.Words.{word}
-use Rattle.reading.specs.Reading.{Reading, onward, answer, wrong_at, further}
+use Rattle.reading.specs.declared.Reading.{Reading}
+use Rattle.reading.specs.Reading.{onward, answer, wrong_at, further}
 use Rattle.forms.proofs.Choices.{Long, word-long}
 use Rattle.forms.proofs.Words.{long, last-long}
 

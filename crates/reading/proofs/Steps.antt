@@ -2,7 +2,7 @@
 use mathlib.Core.Path.{◌≡◌, refl, sym, ap, subst, ◌∙◌}
 use mathlib.Core.Logic.{⊎_elim}
 use mathlib.Core.List.{List}
-use mathlib.Core.Bool.{Bool, true, false, not, ◌||◌}
+use mathlib.Core.Bool.{Bool, true, false, ◌||◌}
 use Prim.Native.Nat.{ℕ, ◌+◌, ◌-◌, ◌*◌, ◌≤◌, ◌<◌}
 use native.Mathlib.Numerals.{add-one}
 use lib.Dec.{eqb, leb}
@@ -12,14 +12,15 @@ use Rattle.std.proofs.Common.{Result, Ok, Err}
 use Rattle.std.specs.Result.{IsErrAnd}
 use borrow.Author.Tests.{lt-ltb, le-ltb, eq-eqb, ne_eqb, le-leb, lt-leb}
 use Rattle.laws.specs.Choice.{pick}
-use Rattle.laws.proofs.Cases.{lt-or-le, pick-taken, pick-left}
+use Rattle.laws.proofs.Cases.{lt-or-le}
 use Rattle.reading.specs.declared.Found.{Found}
 use Rattle.reading.specs.declared.WrongAt.{WrongAt}
 use Rattle.writing.specs.Text.{lf}
 use Rattle.forms.specs.Form.{Form, done, next, Outcome, found, wrong, read_at, literal, ◌>>=◌}
 use Rattle.forms.specs.Decimals.{may_follow, after}
 use Rattle.forms.specs.Hexes.{hex_or, half_byte}
-use Rattle.reading.specs.Reading.{Reading, reading_of, good_to, wrong_at, onward, answer}
+use Rattle.reading.specs.declared.Reading.{Reading}
+use Rattle.reading.specs.Reading.{reading_of, good_to, wrong_at, onward, answer}
 use Rattle.forms.proofs.Hexes.{no_digit, a-digit}
 use Rattle.forms.proofs.Decimals.{after_is, or_right}
 use Rattle.forms.proofs.Forms.{Spells, spelt, onto, both_read}
@@ -49,6 +50,16 @@ module _ {A : Type 0} (f : Form A) (s : List ℕ) {r : Result Found WrongAt} whe
   pub on-err : {w : WrongAt} → r ≡ Err w → onward (reading_of r) f s ≡ wrong w.place
   unfolding onward
   on-err e = ap (λ x. onward (reading_of x) f s) e
+
+-- the same, of three fields
+module _ {A : Type 0} (before : Reading) (f : Form A) (s : List ℕ) where
+  pub from-good : before.good ≡ true → onward (good_to before.value before.place) f s ≡ onward before f s
+  unfolding onward
+  from-good e = rw e
+
+  pub from-wrong : before.good ≡ false → onward (wrong_at before.place) f s ≡ onward before f s
+  unfolding onward
+  from-wrong e = rw e
 
 -- a wrong place that is passed on
 pub passed-on : (r : Result Found WrongAt) {w : WrongAt} → IsErrAnd r (λ y. y ≡ w) → reading_of r ≡ wrong_at w.place

@@ -1,15 +1,10 @@
 -- What the readers answer, each after what was read before it. Assumes nothing: these are definitions.
-use Rattle.std.specs.Prelude.{Result, Ok, Err, List, Bool, true, false, ◌||◌, ℕ, ltb}
+use Rattle.std.specs.Prelude.{Result, Ok, Err, List, true, false, ◌||◌, ℕ, ltb}
 use Rattle.laws.specs.Choice.{pick}
+use Rattle.reading.specs.declared.Reading.{Reading}
 use Rattle.reading.specs.declared.Found.{Found}
 use Rattle.reading.specs.declared.WrongAt.{WrongAt}
 use Rattle.forms.specs.Form.{Form, Outcome, found, wrong, read_at}
-
--- What is read so far: the last value and the place after its text; or, once a byte is wrong, no value and the place of that byte.
-pub record Reading : Type 0 where
-  pub good : Bool
-  pub value : ℕ
-  pub place : ℕ
 
 -- the text s read on by a form; where what was read before is wrong, so is this
 unfoldable pub onward : {A : Type 0} → Reading → Form A → List ℕ → Outcome A

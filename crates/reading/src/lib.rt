@@ -20,10 +20,18 @@ pub struct WrongAt {
     pub place: usize,
 }
 
-pub type Reading = Result<Found, WrongAt>;
+pub type ReadTo = Result<Found, WrongAt>;
+
+// The same in three fields, for a caller that keeps them: once a byte is wrong, no value counts, and the place is that byte's.
+#[derive(Clone, Copy)]
+pub struct Reading {
+    pub good: bool,
+    pub value: u64,
+    pub place: usize,
+}
 
 // The given bytes.
-pub fn read_literal<'a>(s: &'a [u8], before: Reading, bytes: &'a [u8]) -> Reading
+pub fn read_literal<'a>(s: &'a [u8], before: ReadTo, bytes: &'a [u8]) -> ReadTo
     ensures { reading_of result ≡ answer (onward (reading_of before) (literal bytes.now) s.now) }
 {
     let mut place = before?.place;
@@ -61,7 +69,7 @@ pub fn may_follow(high: u64, n: u64, b: u8) -> bool
 }
 
 // After digits of the value `n`: more digits, and LF.
-fn read_after(s: &[u8], at: usize, high: u64, n: u64) -> Reading
+fn read_after(s: &[u8], at: usize, high: u64, n: u64) -> ReadTo
     requires { at ≤ length s.now }
     ensures { reading_of result ≡ answer (read_at (after high n) s.now at) }
 {
@@ -83,7 +91,7 @@ fn read_after(s: &[u8], at: usize, high: u64, n: u64) -> Reading
 }
 
 // A number from `low` to `high`, ended by LF.
-pub fn read_decimal(s: &[u8], before: Reading, low: u64, high: u64) -> Reading
+pub fn read_number(s: &[u8], before: ReadTo, low: u64, high: u64) -> ReadTo
     ensures { reading_of result ≡ answer (onward (reading_of before) (decimal low high) s.now) }
 {
     let place = before?.place;
@@ -93,15 +101,46 @@ pub fn read_decimal(s: &[u8], before: Reading, low: u64, high: u64) -> Reading
     read_after(s, place + 1, high, (s[place] - b'0') as u64)
 }
 
+// What is read so far, in three fields.
+fn fields_of(read: ReadTo) -> Reading
+    ensures { result ≡ reading_of read }
+{
+    match read {
+        Ok(found) => Reading {
+            good: true,
+            value: found.value,
+            place: found.place,
+        },
+        Err(wrong) => Reading {
+            good: false,
+            value: 0,
+            place: wrong.place,
+        },
+    }
+}
+
+// The same number, after a reading in three fields and to one.
+pub fn read_decimal(s: &[u8], before: Reading, low: u64, high: u64) -> Reading
+    ensures { result ≡ answer (onward before (decimal low high) s.now) }
+{
+    let Reading { good, value, place } = before;
+    let after = if good {
+        Ok(Found { value, place })
+    } else {
+        Err(WrongAt { place })
+    };
+    fields_of(read_number(s, after, low, high))
+}
+
 // A line with a number.
-pub fn read_line<'a>(s: &'a [u8], before: Reading, name: &'a [u8], low: u64, high: u64) -> Reading
+pub fn read_line<'a>(s: &'a [u8], before: ReadTo, name: &'a [u8], low: u64, high: u64) -> ReadTo
     ensures { reading_of result ≡ answer (onward (reading_of before) (named name.now (decimal low high)) s.now) }
 {
-    read_decimal(s, read_literal(s, before, name), low, high)
+    read_number(s, read_literal(s, before, name), low, high)
 }
 
 // The given bytes, for the value.
-fn read_word<'a>(s: &'a [u8], before: Reading, word: &'a [u8], value: u64) -> Reading
+fn read_word<'a>(s: &'a [u8], before: ReadTo, word: &'a [u8], value: u64) -> ReadTo
     ensures { reading_of result ≡ answer (onward (reading_of before) (named word.now (done value)) s.now) }
 {
     let end = read_literal(s, before, word)?;
@@ -112,7 +151,7 @@ fn read_word<'a>(s: &'a [u8], before: Reading, word: &'a [u8], value: u64) -> Re
 }
 
 // Of two readings from one place: the good one, or else the one that came further.
-fn further(a: Reading, b: Reading) -> Reading
+fn further(a: ReadTo, b: ReadTo) -> ReadTo
     ensures { reading_of result ≡ further (reading_of a) (reading_of b) }
 {
     match (a, b) {
@@ -125,12 +164,12 @@ fn further(a: Reading, b: Reading) -> Reading
 // One of three words, for a value and the two that follow it; and LF.
 pub fn read_one_of(
     s: &[u8],
-    before: Reading,
+    before: ReadTo,
     first: u64,
     a: [u8; 4],
     b: [u8; 4],
     c: [u8; 4],
-) -> Reading
+) -> ReadTo
     requires { first ≤ 5 }
     ensures { reading_of result ≡ answer (onward (reading_of before) (one_of first a b c) s.now) }
 {

@@ -14,7 +14,8 @@ use Rattle.record_reader.specs.Lines.{key_reading_of, no_key_at}
 use Rattle.writing.specs.Text.{ascii}
 use Rattle.forms.specs.Form.{Form, done, named, ◌>>=◌}
 use Rattle.forms.specs.Hexes.{byte, bytes}
-use Rattle.reading.specs.Reading.{Reading, onward, answer}
+use Rattle.reading.specs.declared.Reading.{Reading}
+use Rattle.reading.specs.Reading.{onward, answer}
 use Rattle.forms.proofs.Forms.{both-assoc}
 use Rattle.reading.proofs.Steps.{on_then}
 

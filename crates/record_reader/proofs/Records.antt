@@ -15,7 +15,8 @@ use Rattle.std.proofs.Common.{Result, Ok, Err}
 use Rattle.std.specs.Result.{IsErrAnd}
 use Rattle.reading.specs.declared.WrongAt.{WrongAt}
 use Rattle.record_reader.specs.declared.Record.{Record}
-use Rattle.reading.specs.Reading.{Reading, onward, answer}
+use Rattle.reading.specs.declared.Reading.{Reading}
+use Rattle.reading.specs.Reading.{onward, answer}
 use Rattle.record_reader.specs.Lines.{KeyReading, key_answer, use_form, algorithm_form, code_form, key_form}
 use Rattle.writing.specs.Text.{ascii, digits, hex_text, line_text}
 use Rattle.record_text.specs.Text.{use_word, code_text, lines_text, form_text, InCode, Good}

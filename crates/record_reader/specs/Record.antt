@@ -8,7 +8,8 @@ use Rattle.record_reader.specs.declared.Record.{Record}
 use Rattle.record_reader.specs.declared.BadText.{BadText}
 use Rattle.writing.specs.Text.{ascii}
 use Rattle.reading.specs.declared.WrongAt.{WrongAt}
-use Rattle.reading.specs.Reading.{Reading, good_to, onward, answer}
+use Rattle.reading.specs.declared.Reading.{Reading}
+use Rattle.reading.specs.Reading.{good_to, onward, answer}
 use Rattle.lines.specs.Line.{line_of, column_of}
 use Rattle.forms.specs.Form.{Form, done, literal, Outcome, found, wrong, read_at, line, ◌>>=◌}
 use Rattle.forms.specs.Decimals.{decimal}

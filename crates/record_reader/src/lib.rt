@@ -13,7 +13,7 @@ use algorithms::name;
 use fields::Fields;
 use hex_reading::read_byte;
 use lines::{column_of, line_of};
-use reading::{Found, Reading, WrongAt, read_line, read_literal, read_one_of};
+use reading::{Found, ReadTo, WrongAt, read_line, read_literal, read_one_of};
 use record_text::use_word;
 
 // A key and the place after it.
@@ -25,7 +25,7 @@ struct KeyFound {
 
 // SEND, RECV or BOTH, ended by LF.
 #[tactic(auto, unfolding(crate::specs::Lines::use_form))]
-fn read_use(s: &[u8], before: Reading) -> Reading
+fn read_use(s: &[u8], before: ReadTo) -> ReadTo
     ensures { reading_of result ≡ answer (onward (reading_of before) use_form s.now) }
 {
     read_one_of(s, before, 1, use_word(1), use_word(2), use_word(3))
@@ -33,14 +33,14 @@ fn read_use(s: &[u8], before: Reading) -> Reading
 
 // TEA5, TEA6 or TEA7, ended by LF.
 #[tactic(auto, unfolding(crate::specs::Lines::algorithm_form))]
-fn read_algorithm(s: &[u8], before: Reading) -> Reading
+fn read_algorithm(s: &[u8], before: ReadTo) -> ReadTo
     ensures { reading_of result ≡ answer (onward (reading_of before) algorithm_form s.now) }
 {
     read_one_of(s, before, 5, name(5), name(6), name(7))
 }
 
 // A key, ended by LF.
-fn read_key(s: &[u8], before: Reading) -> Result<KeyFound, WrongAt>
+fn read_key(s: &[u8], before: ReadTo) -> Result<KeyFound, WrongAt>
     ensures { key_reading_of result ≡ key_answer (onward (reading_of before) key_form s.now) }
 {
     let mut key = [0u8; 24];
@@ -93,7 +93,7 @@ pub fn starts_form(text: &[u8]) -> bool
 
 // The line that says form 2, or nothing.
 #[tactic(auto, unfolding(crate::specs::Record::opened))]
-fn read_form(text: &[u8], two: bool) -> Reading
+fn read_form(text: &[u8], two: bool) -> ReadTo
     ensures { reading_of result ≡ opened two text.now }
 {
     let front = Ok(Found { value: 0, place: 0 });
@@ -106,7 +106,7 @@ fn read_form(text: &[u8], two: bool) -> Reading
 
 // The line of a network code, or nothing and 0.
 #[tactic(auto, unfolding(forms::specs::Form::literal))]
-fn read_code<'a>(text: &'a [u8], before: Reading, two: bool, name: &'a [u8], high: u64) -> Reading
+fn read_code<'a>(text: &'a [u8], before: ReadTo, two: bool, name: &'a [u8], high: u64) -> ReadTo
     ensures { reading_of result ≡ answer (onward (reading_of before) (pick two (named name.now (decimal 0 high)) (done 0)) text.now) }
 {
     if two {

@@ -2,7 +2,8 @@
 use Rattle.std.proofs.Common.{◌≡◌, ◌∙◌, sym, ap, List, ℕ}
 use Rattle.forms.specs.Form.{line}
 use Rattle.forms.specs.Decimals.{decimal}
-use Rattle.reading.specs.Reading.{Reading, onward, answer, reading_of}
+use Rattle.reading.specs.declared.Reading.{Reading}
+use Rattle.reading.specs.Reading.{onward, answer, reading_of}
 use Rattle.conversion_sheet.specs.Input.{before_read, after_read, named_by}
 use Rattle.conversion_sheet.proofs.input.named_by.Goals as goal
 

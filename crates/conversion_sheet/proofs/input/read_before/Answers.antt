@@ -1,6 +1,6 @@
 -- `input::read_before`: by the name, and the three bytes behind it. Assumes nothing.
 use Rattle.std.proofs.Common.{◌∙◌, sym, ap}
-use Rattle.reading.specs.Reading.{Reading}
+use Rattle.reading.specs.declared.Reading.{Reading}
 use Rattle.conversion_sheet.specs.Input.{spaced_number, before_read}
 use Rattle.conversion_sheet.proofs.input.read_before.Goals as goal
 
