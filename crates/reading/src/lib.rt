@@ -91,7 +91,7 @@ fn read_after(s: &[u8], at: usize, high: u64, n: u64) -> ReadTo
 }
 
 // A number from `low` to `high`, ended by LF.
-pub fn read_number(s: &[u8], before: ReadTo, low: u64, high: u64) -> ReadTo
+pub fn read_bounded(s: &[u8], before: ReadTo, low: u64, high: u64) -> ReadTo
     ensures { reading_of result ≡ answer (onward (reading_of before) (decimal low high) s.now) }
 {
     let place = before?.place;
@@ -129,14 +129,14 @@ pub fn read_decimal(s: &[u8], before: Reading, low: u64, high: u64) -> Reading
     } else {
         Err(WrongAt { place })
     };
-    fields_of(read_number(s, after, low, high))
+    fields_of(read_bounded(s, after, low, high))
 }
 
 // A line with a number.
 pub fn read_line<'a>(s: &'a [u8], before: ReadTo, name: &'a [u8], low: u64, high: u64) -> ReadTo
     ensures { reading_of result ≡ answer (onward (reading_of before) (named name.now (decimal low high)) s.now) }
 {
-    read_number(s, read_literal(s, before, name), low, high)
+    read_bounded(s, read_literal(s, before, name), low, high)
 }
 
 // The given bytes, for the value.

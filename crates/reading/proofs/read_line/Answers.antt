@@ -5,4 +5,4 @@ use Rattle.reading.proofs.Steps.{on_then}
 use Rattle.reading.proofs.read_line.Goals as goal
 
 pub returns : goal.returns
-returns c = c.read_number.ensures ∙ sym (ap answer (on_then _ _ _ _ c.read_literal.ensures))
+returns c = c.read_bounded.ensures ∙ sym (ap answer (on_then _ _ _ _ c.read_literal.ensures))

@@ -1,11 +1,11 @@
--- `reading::read_number`: the first digit, and then as `read_after` reads. Assumes nothing.
+-- `reading::read_bounded`: the first digit, and then as `read_after` reads. Assumes nothing.
 use Rattle.std.proofs.Common.{◌∙◌, sym, ap, arith}
 use Rattle.forms.specs.Decimals.{decimal}
 use Rattle.reading.specs.Reading.{answer}
 use Rattle.forms.proofs.Decimals.{begin-is}
 use Rattle.reading.proofs.Steps.{on-ok, on-err, passed-on, step_end, step-no, step-yes}
-use Rattle.reading.proofs.read_number.Goals as goal
-use Rattle.reading.proofs.read_number.Goals.{then-s-place-via-then-s-place, then-s-place-via-else-s-place+then-not-may_begin}
+use Rattle.reading.proofs.read_bounded.Goals as goal
+use Rattle.reading.proofs.read_bounded.Goals.{then-s-place-via-then-s-place, then-s-place-via-else-s-place+then-not-may_begin}
 
 pub returns-in_err-place : goal.returns-in_err-place
 returns-in_err-place c = passed-on _ c.from_residual.ensures.1 ∙ sym (ap answer (on-err _ _ c.in_err-place.was))
