@@ -82,12 +82,13 @@ fn is_network(mcc: u64, mnc: u64) -> bool
 }
 
 // The ranges alone, with no order of refusals: a call on a table asks this of each of its slots.
-// `&` joins each pair, so that the compiler makes a branch of each limit: with `&&` alone a call on a full table runs 160 instructions more.
+// `&` joins each pair, so that the compiler makes a branch of each limit: with `&&` alone a full table takes more than half as long again. The pair
+// with the algorithm comes first: the other way about a full table takes a quarter longer (docs/DESIGN-PASS.md).
 pub fn are_in_range(a: Asked) -> bool
     ensures { result ≡ all_in_range a }
 {
-    (is_use(a.usage) & are_side_and_place(a.side, a.place))
-        && (is_algorithm(a.algorithm) & is_network(a.mcc, a.mnc))
+    (is_algorithm(a.algorithm) & is_network(a.mcc, a.mnc))
+        && (is_use(a.usage) & are_side_and_place(a.side, a.place))
 }
 
 // Refusals 10, 11 and 20, in this order.
