@@ -1,11 +1,9 @@
 -- What the calls on a buffer share: refusals 5, 4 and 6, in this order (document 01, "Numbers an engineer sees"), the form of their answers,
 -- and the key schedules that they fill (document 02, [10]). Assumes nothing: these are definitions.
-use Rattle.std.specs.Prelude.{◌||◌, List, ℕ, ◌+◌, ◌*◌, eqb, ltb, Result, Ok, Err}
+use Rattle.std.specs.Prelude.{◌||◌, List, ℕ, ◌+◌, ◌*◌, eqb, ltb}
 use Rattle.laws.specs.Choice.{pick}
 use Rattle.refusals.specs.Numbers.{done, length_bad, buffer_large, span_outside, refuse}
-use Rattle.refusals.specs.declared.Refusal.{Refusal}
 use Rattle.span.specs.Span.{longest_buffer, longest_stream}
-use Rattle.keystream.specs.declared.Tally.{Tally}
 
 -- a buffer of `size` bytes, and n bits of it from `start` on with the keystream's bits from `skip` on
 unfoldable pub span_refusal : ℕ → ℕ → ℕ → ℕ → ℕ
@@ -23,16 +21,6 @@ pub record Ciphered : Type 0 where
 
 abbrev pub ciphered_as : ℕ → List ℕ → ℕ → Ciphered
 ciphered_as refusal buffer blocks = record { refusal = refusal; buffer = buffer; blocks = blocks }
-
--- what a call made: no block and no key schedule where it is refused
-
-abbrev pub blocks_of : Result Tally Refusal → ℕ
-blocks_of (Ok made) = made.blocks
-blocks_of (Err _) = 0
-
-abbrev pub schedules_of : Result Tally Refusal → ℕ
-schedules_of (Ok made) = made.schedules
-schedules_of (Err _) = 0
 
 -- the key schedules that a call fills, by the blocks that it makes: one, and none where it makes no block, as a refused call does
 abbrev pub schedules_for : ℕ → ℕ

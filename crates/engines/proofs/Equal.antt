@@ -5,11 +5,8 @@ use mathlib.Core.Path.{◌≡◌, sym, ap, ◌∙◌}
 use mathlib.Core.List.{List}
 use Prim.Native.Nat.{ℕ}
 use denote.Ref.{Bor, MutBor}
-use Rattle.std.specs.Prelude.{Result}
-use Rattle.refusals.specs.declared.Refusal.{Refusal}
-use Rattle.refusals.specs.Refused.{number_of}
-use Rattle.keystream.specs.declared.Tally.{Tally}
-use Rattle.ciphering.specs.Span.{Ciphered, blocks_of}
+use Rattle.ciphering.specs.declared.Report.{Report}
+use Rattle.ciphering.specs.Span.{Ciphered}
 use Rattle.card.proofs.bench_call.card_bench.Reads as card-bench
 use Rattle.plain.specs.Given.{given_refusal, given_buffer, given_blocks}
 use Rattle.plain.proofs.Given.{given-bench}
@@ -20,10 +17,10 @@ use Rattle.engines.proofs.quick.Reads as quick
 module _ (algorithm n : ℕ) (key iv : Bor (List ℕ)) (buf : MutBor (List ℕ)) (key' iv' : Bor (List ℕ)) (buf' : MutBor (List ℕ)) (blocks : MutBor ℕ)
     (same_key : key.now ≡ key'.now) (same-iv : iv.now ≡ iv'.now) (same-buf : buf.now ≡ buf'.now) where
   -- refusal, whole buffer and blocks are the same: the buffer is the fourth parameter, and the plain engine's number of blocks the seventh
-  pub plain-is-quick : (skip r : ℕ) (s : Result Tally Refusal) (κs κs' : _) (e e' : _)
+  pub plain-is-quick : (skip r : ℕ) (s : Report) (κs κs' : _) (e e' : _)
       → card-plain.Learnt κs (algorithm, (key, (iv, (buf, (n, (skip, (blocks, tt))))))) r e
       → quick.Learnt κs' (algorithm, (key', (iv', (buf', (n, (skip, tt)))))) s e'
-      → (r ≡ number_of s) × (e.1.1.1.0.now ≡ e'.1.1.1.0.now) × (e.1.1.1.1.1.1.0.now ≡ blocks_of s)
+      → (r ≡ s.refusal) × (e.1.1.1.0.now ≡ e'.1.1.1.0.now) × (e.1.1.1.1.1.1.0.now ≡ s.blocks)
   plain-is-quick skip r s κs κs' e e' p q = (
     p.0 ∙ (λ i. given_refusal algorithm (same_key i) (same-iv i) (same-buf i) n skip) ∙ sym q.0,
     p.1 ∙ (λ i. given_buffer algorithm (same_key i) (same-iv i) (same-buf i) n skip) ∙ sym q.1,

@@ -3,8 +3,9 @@
 
 mod changes;
 
-ghost use Rattle.std.specs.Prelude.{◌≡◌};
+ghost use Rattle.std.specs.Prelude.{◌≡◌, false};
 ghost use Rattle.refusals.specs.Refused.{number_of};
+ghost use Rattle.sheet_faults.specs.Sheet.{sheet_bad};
 ghost use Rattle.mending.specs.Changes.{is_record};
 ghost use Rattle.mending.specs.Answer.{length_of, mend_as, mend_out, print_as, print_out};
 
@@ -32,13 +33,11 @@ fn is_record(s: &[u8]) -> bool
     }
 }
 
-// The mended sheet, at the front of the buffer, and its length. The bytes after it stay; a refused sheet leaves them all.
-pub fn mend(text: &[u8], buffer: &mut [u8]) -> Result<usize, Refusal>
+// The mended sheet of a text whose names are right. Apart, so that a text that is refused for its names sets no memory first.
+fn mend_values(text: &[u8], buffer: &mut [u8]) -> Result<usize, Refusal>
+    requires { sheet_bad text.now ≡ false }
     ensures { mend_as (number_of result) (length_of result) buffer.new ≡ mend_out text.now buffer.old }
 {
-    if sheet_bad(text) {
-        return Err(Refusal::SheetNamesBad);
-    }
     let two = is_form_two(text);
     let mut sheet = [0u8; SHEET];
     let end = put_text(&mut sheet, text, two);
@@ -51,6 +50,16 @@ pub fn mend(text: &[u8], buffer: &mut [u8]) -> Result<usize, Refusal>
     }
     put_bytes(buffer, 0, &sheet[..length]);
     Ok(length)
+}
+
+// The mended sheet, at the front of the buffer, and its length. The bytes after it stay; a refused sheet leaves them all.
+pub fn mend(text: &[u8], buffer: &mut [u8]) -> Result<usize, Refusal>
+    ensures { mend_as (number_of result) (length_of result) buffer.new ≡ mend_out text.now buffer.old }
+{
+    if sheet_bad(text) {
+        return Err(Refusal::SheetNamesBad);
+    }
+    mend_values(text, buffer)
 }
 
 // What the program prints of a text, at the front of the buffer, and its length. A smaller buffer than `ROOM` stays as it is, with length 0.
