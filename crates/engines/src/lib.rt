@@ -11,14 +11,7 @@ use plain::call::refusal_of;
 
 // By the quick engine: the tables, the list of mixed bytes, the schedule of 32-bit words.
 #[tactic(auto, using(bench::proofs::Passed::keyed_steps), unfolding(plain::specs::Given::given_buffer, plain::specs::Given::given_blocks))]
-pub fn quick(
-    algorithm: u64,
-    key: &[u8],
-    iv: &[u8],
-    buf: &mut [u8],
-    n: usize,
-    skip: usize,
-) -> Report
+pub fn quick(algorithm: u64, key: &[u8], iv: &[u8], buf: &mut [u8], n: usize, skip: usize) -> Report
     ensures { (result.refusal ≡ given_refusal algorithm key.now iv.now buf.old n skip)
         × (buf.new ≡ given_buffer algorithm key.now iv.now buf.old n skip)
         × (result.blocks ≡ given_blocks algorithm key.now iv.now buf.old n skip) }
